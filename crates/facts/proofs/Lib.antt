@@ -1,0 +1,5 @@
+pub mod Counting
+pub mod Runs
+pub mod Removals
+pub mod Kernels
+pub mod Levels

@@ -1,0 +1,127 @@
+-- The small maps P1 to P10, by computation on the definitions. Assumes nothing.
+use mathlib.Core.Path.{_≡_, refl}
+use mathlib.Core.Bool.{true, false}
+use mathlib.Core.List.{List, [], _∷_}
+use Prim.Native.Nat.{ℕ, zero, suc, _+_, _*_}
+use Rattle.maps.specs.Verdict.{Verdict, accepted, refused, scan}
+use Rattle.maps.specs.Count.{count, sum}
+use Rattle.maps.specs.Mark.{across}
+use Rattle.maps.specs.Removal.{goOn, removal}
+use Rattle.maps.specs.Table.{entry, each, listed, explicit}
+use Rattle.maps.specs.Folded.{gone, marks, level, levelTable}
+use Rattle.maps.specs.Walk.{Walked, ended, stopped, walkFrom, walk}
+use Rattle.maps.specs.ByLevels.{readBase, overLevel, readLevel, byLevels}
+use Rattle.maps.specs.Cost.{reads, cost}
+use Rattle.maps.specs.Check.{checkMap, checkKernel, checkMarks, checkKernels, checkPyramid}
+
+-- a folded pyramid as it is lent: n, N, h, rows, Λ, Δ
+pub record Lent : Type 0 where
+  pub n : ℕ
+  pub N : ℕ
+  pub h : ℕ
+  pub rows : List ℕ
+  pub lambda : List ℕ
+  pub delta : List ℕ
+
+abbrev pub verdict : Lent → Verdict
+verdict p = checkPyramid (entry p.N p.rows) p.n p.N p.h (each p.lambda) (each p.delta)
+
+-- a_i of dart d on level l, by the removals
+abbrev pub neighbour : Lent → ℕ → ℕ → ℕ → ℕ
+neighbour p l i d = level (entry p.N p.rows) p.n p.N (marks p.h (each p.lambda) (each p.delta)) l i d
+
+-- the same by the direct walk and by levels
+abbrev pub direct : Lent → ℕ → ℕ → ℕ → Walked
+direct p l i d = walk (entry p.N p.rows) p.n p.N p.h (each p.lambda) (each p.delta) l i d
+
+abbrev pub levelwise : Lent → ℕ → ℕ → ℕ → Walked
+levelwise p l i d = byLevels (entry p.N p.rows) p.n p.N p.h (each p.lambda) (each p.delta) i d l
+
+abbrev pub costs : Lent → ℕ → ℕ
+costs p l = cost (entry p.N p.rows) p.n p.N p.h (each p.lambda) (each p.delta) l
+
+abbrev pub table : Lent → ℕ → List ℕ
+table p l = levelTable (entry p.N p.rows) p.n p.N p.h (each p.lambda) (each p.delta) l
+
+-- the rows that a direct walk reads, one after the other
+unfoldable pub rowsRead : Lent → ℕ → ℕ → ℕ → ℕ → List ℕ
+rowsRead p l zero t d = []
+rowsRead p l (suc k) t d = t ∷ elim (gone (each p.lambda) l (entry p.N p.rows t d)) [
+  | true ↦ rowsRead p l k (across (each p.delta (entry p.N p.rows t d)) t) (entry p.N p.rows t d)
+  | false ↦ []
+]
+
+abbrev segment : List ℕ
+segment = 1 ∷ 0 ∷ 0 ∷ 1 ∷ []
+
+abbrev square : List ℕ
+square = 1 ∷ 0 ∷ 3 ∷ 2 ∷ 5 ∷ 4 ∷ 7 ∷ 6 ∷ 7 ∷ 2 ∷ 1 ∷ 4 ∷ 3 ∷ 6 ∷ 5 ∷ 0 ∷ []
+
+abbrev starRows : List ℕ
+starRows = 6 ∷ 7 ∷ 8 ∷ 9 ∷ 10 ∷ 11 ∷ 0 ∷ 1 ∷ 2 ∷ 3 ∷ 4 ∷ 5 ∷ 5 ∷ 2 ∷ 1 ∷ 4 ∷ 3 ∷ 0 ∷ 7 ∷ 6 ∷ 9 ∷ 8 ∷ 11 ∷ 10 ∷ 1 ∷ 0 ∷ 3 ∷ 2 ∷ 5 ∷ 4 ∷ 7 ∷ 6 ∷ 9 ∷ 8 ∷ 11 ∷ 10 ∷ []
+
+-- P1 Segment, vertex {1} removed
+abbrev pub one : Lent
+one = record { n = 1; N = 2; h = 1; rows = segment; lambda = 1 ∷ 0 ∷ []; delta = 1 ∷ 0 ∷ [] }
+
+-- P2 Same, both vertices removed
+abbrev pub both : Lent
+both = record { n = 1; N = 2; h = 1; rows = segment; lambda = 0 ∷ 0 ∷ []; delta = 0 ∷ 0 ∷ [] }
+
+-- P3 Square, {1,2} removed; P4 then {3,4}
+abbrev pub corners : Lent
+corners = record { n = 1; N = 8; h = 2; rows = square; lambda = 2 ∷ 0 ∷ 0 ∷ 1 ∷ 1 ∷ 2 ∷ 2 ∷ 2 ∷ []; delta = 1 ∷ 0 ∷ 0 ∷ 0 ∷ 0 ∷ 1 ∷ 1 ∷ 1 ∷ [] }
+
+-- P5 Square, only dart 1 marked
+abbrev pub half : Lent
+half = record { n = 1; N = 8; h = 1; rows = square; lambda = 1 ∷ 0 ∷ 1 ∷ 1 ∷ 1 ∷ 1 ∷ 1 ∷ 1 ∷ []; delta = 1 ∷ 0 ∷ 1 ∷ 1 ∷ 1 ∷ 1 ∷ 1 ∷ 1 ∷ [] }
+
+-- P6 a vertex {0,1,2,3} with two edge sides by count
+abbrev pub twoSides : Lent
+twoSides = record {
+  n = 2;
+  N = 8;
+  h = 1;
+  rows = 4 ∷ 5 ∷ 6 ∷ 7 ∷ 0 ∷ 1 ∷ 2 ∷ 3 ∷ 2 ∷ 1 ∷ 0 ∷ 3 ∷ 4 ∷ 5 ∷ 6 ∷ 7 ∷ 1 ∷ 0 ∷ 3 ∷ 2 ∷ 5 ∷ 4 ∷ 7 ∷ 6 ∷ [];
+  lambda = 0 ∷ 0 ∷ 0 ∷ 0 ∷ 1 ∷ 1 ∷ 1 ∷ 1 ∷ [];
+  delta = 0 ∷ 0 ∷ 0 ∷ 0 ∷ 2 ∷ 2 ∷ 2 ∷ 2 ∷ [];
+}
+
+-- P7 a0 and a2 don't commute
+abbrev pub apart : Lent
+apart = record { n = 2; N = 4; h = 0; rows = 1 ∷ 0 ∷ 3 ∷ 2 ∷ 0 ∷ 1 ∷ 2 ∷ 3 ∷ 2 ∷ 1 ∷ 0 ∷ 3 ∷ []; lambda = 0 ∷ 0 ∷ 0 ∷ 0 ∷ []; delta = 2 ∷ 2 ∷ 2 ∷ 2 ∷ [] }
+
+-- P8 Star, edge {2,3,8,9} removed; P9 then vertex {0,1,4,5}
+abbrev pub star : Lent
+star = record { n = 2; N = 12; h = 2; rows = starRows; lambda = 1 ∷ 1 ∷ 0 ∷ 0 ∷ 1 ∷ 1 ∷ 2 ∷ 2 ∷ 0 ∷ 0 ∷ 2 ∷ 2 ∷ []; delta = 0 ∷ 0 ∷ 1 ∷ 1 ∷ 0 ∷ 0 ∷ 2 ∷ 2 ∷ 1 ∷ 1 ∷ 2 ∷ 2 ∷ [] }
+
+-- P10 Star, vertex {0..5} in kernel 0
+abbrev pub hub : Lent
+hub = record { n = 2; N = 12; h = 1; rows = starRows; lambda = 0 ∷ 0 ∷ 0 ∷ 0 ∷ 0 ∷ 0 ∷ 1 ∷ 1 ∷ 1 ∷ 1 ∷ 1 ∷ 1 ∷ []; delta = 0 ∷ 0 ∷ 0 ∷ 0 ∷ 0 ∷ 0 ∷ 2 ∷ 2 ∷ 2 ∷ 2 ∷ 2 ∷ 2 ∷ [] }
+
+pub record SmallMaps : Type 0 where
+  pub p1 : (verdict one ≡ accepted) × (neighbour one 1 0 0 ≡ 0) × (direct one 1 0 0 ≡ ended 0 0 3) × (costs one 1 ≡ 4)
+  pub p2 : (verdict both ≡ accepted) × (table both 1 ≡ 65535 ∷ 65535 ∷ 65535 ∷ 65535 ∷ []) × (costs both 1 ≡ 0)
+  pub p3 : (verdict corners ≡ accepted) × (neighbour corners 1 0 0 ≡ 3) × (neighbour corners 1 0 3 ≡ 0) × (direct corners 1 0 0 ≡ ended 0 3 3) × (direct corners 1 0 3 ≡ ended 0 0 3) × (costs corners 1 ≡ 16)
+  pub p4 : (neighbour corners 2 0 0 ≡ 5) × (neighbour corners 2 0 5 ≡ 0) × (direct corners 2 0 0 ≡ ended 0 5 5) × (direct corners 2 0 5 ≡ ended 0 0 5) × (costs corners 2 ≡ 16)
+  pub p5 : verdict half ≡ refused 9 0 1 1
+  pub p6 : verdict twoSides ≡ refused 10 0 1 0
+  pub p7 : verdict apart ≡ refused 7 0 0 0
+  pub p8 : (neighbour star 1 1 1 ≡ 4) × (neighbour star 1 1 4 ≡ 1)
+  pub p9 : (verdict star ≡ accepted) × (neighbour star 2 0 7 ≡ 10) × (direct star 2 0 7 ≡ ended 0 10 5) × (levelwise star 2 0 7 ≡ ended 0 10 5) × (rowsRead star 2 5 0 7 ≡ 0 ∷ 1 ∷ 2 ∷ 1 ∷ 0 ∷ []) × (costs star 0 ≡ 36) × (costs star 1 ≡ 28) × (costs star 2 ≡ 24)
+  pub p10 : verdict hub ≡ refused 10 0 1 0
+
+pub small-maps : SmallMaps
+unfolding scan count sum goOn removal listed explicit level walkFrom walk readBase overLevel readLevel byLevels reads cost checkMap checkKernel checkMarks checkKernels checkPyramid rowsRead
+small-maps = record {
+  p1 = (refl, refl, refl, refl);
+  p2 = (refl, refl, refl);
+  p3 = (refl, refl, refl, refl, refl, refl);
+  p4 = (refl, refl, refl, refl, refl);
+  p5 = refl;
+  p6 = refl;
+  p7 = refl;
+  p8 = (refl, refl);
+  p9 = (refl, refl, refl, refl, refl, refl, refl, refl);
+  p10 = refl;
+}

@@ -1,0 +1,14 @@
+pub mod Verdict
+pub mod Count
+pub mod Map
+pub mod Cell
+pub mod Mark
+pub mod Kernel
+pub mod Removal
+pub mod Table
+pub mod Folded
+pub mod Walk
+pub mod ByLevels
+pub mod Cost
+pub mod Pyramid
+pub mod Check

@@ -1,0 +1,24 @@
+-- Verdicts: accepted, or a refusal; and the first refusal of several. Assumes nothing: these are definitions.
+use mathlib.Core.Bool.{Bool, true, false}
+use Prim.Native.Nat.{ℕ, zero, suc}
+
+-- A result is 0, or a refusal with level, involution and dart; a field that says nothing is 0.
+pub data Verdict : Type 0 where
+  accepted : Verdict
+  refused : (number level involution dart : ℕ) → Verdict
+
+-- a refusal where the test holds
+abbrev pub when : Bool → Verdict → Verdict
+when true v = v
+when false v = accepted
+
+-- the first verdict where it is a refusal, else the second
+infixr 5 _then_
+abbrev pub _then_ : Verdict → Verdict → Verdict
+accepted then v = v
+(refused number level involution dart) then v = refused number level involution dart
+
+-- The first place found is the one reported: the first refusal of v 0, v 1, .., v (m − 1).
+unfoldable pub scan : ℕ → (ℕ → Verdict) → Verdict
+scan zero v = accepted
+scan (suc m) v = scan m v then v m
