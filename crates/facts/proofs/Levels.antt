@@ -1,17 +1,16 @@
 -- The levels of an accepted pyramid: each is a valid map on its survivors, and the direct walk over the base finds its rows. Assumes nothing.
 use mathlib.Core.Path.{_≡_, refl, sym, ap, _∙_, fun-ext}
-use mathlib.Core.Logic.{_⊎_, inl, inr}
-use mathlib.Core.Bool.{Bool, true, false, cond, _&&_, not}
-use Prim.Native.Nat.{ℕ, zero, suc, _+_, _*_, _≤_, _<_}
+use mathlib.Core.Bool.{Bool, true, false}
+use Prim.Native.Nat.{ℕ, zero, suc, _+_, _≤_, _<_}
 use native.Mathlib.Omega.{arith}
 use lib.Dec.{eqb, ltb}
-use borrow.Author.Tests.{eqb-true, eqb-false, eq-eqb, ltb-true, ltb-false, lt-ltb, le-ltb, not-false}
+use borrow.Author.Tests.{eqb-true, eqb-false, eq-eqb, ltb-true, lt-ltb, le-ltb, not-false}
 use Rattle.maps.specs.Map.{Involutions, Valid}
 use Rattle.maps.specs.Mark.{isMark, stay, between}
-use Rattle.maps.specs.Removal.{removal}
+use Rattle.maps.specs.Kernel.{Kernel}
 use Rattle.maps.specs.Folded.{On, gone, refusedMarks, marks, level}
 use Rattle.maps.specs.Pyramid.{Pyramid}
-use Rattle.facts.proofs.Runs.{turn, Passable, Reaches, Run, unique, front, Ground, turn-le, no-both}
+use Rattle.facts.proofs.Runs.{turn, Passable, Reaches, Run, front, Ground, turn-le, no-both}
 use Rattle.facts.proofs.Removals.{Passing, without, without-valid, led, Led, ground}
 use Rattle.facts.proofs.Kernels.{removal-without, passing}
 
@@ -101,6 +100,49 @@ module _ (a : Involutions) (n N h : ℕ) (Λ Δ : ℕ → ℕ) (ln : n ≤ stay)
   unfolding level
   level-suc l = fun-ext (λ i. fun-ext (λ b. removal-without (level a n N (marks h Λ Δ) l) n (marks h Λ Δ l) (low Δ) (high Δ) (rows l) N i b))
 
+  -- a dart of level l+1 is one of level l that is not in kernel l
+  pub wider : (l d : ℕ) → On N Λ (suc l) d → On N Λ l d × (taken n h Λ Δ l d ≡ false)
+  wider l d o = ((o .0, omega (arith, o .1)), go (taken n h Λ Δ l d) refl)
+    where
+      go : (x : Bool) → taken n h Λ Δ l d ≡ x → taken n h Λ Δ l d ≡ false
+      go true q = let t = taken-is n h Λ Δ ln l d q in absurd (omega (arith, o .1))
+      go false q = q
+
+  module _ (allowed : (d : ℕ) → d < N → refusedMarks n h (Λ d) (Δ d) ≡ false) (l : ℕ) (k : l < h) where
+    pub narrow : (d : ℕ) → On N Λ l d → taken n h Λ Δ l d ≡ false → On N Λ (suc l) d
+    narrow d o q = go (eqb (Λ d) l) refl
+      where
+        go : (x : Bool) → eqb (Λ d) l ≡ x → On N Λ (suc l) d
+        go true e =
+            let f : Λ d ≡ l = eqb-true (Λ d) l e in
+            let s = allowed-small n h Λ Δ d (allowed d (o .0)) (omega arith) in
+            absurd (no-both (taken n h Λ Δ l d) (rw (marks-at n h Λ Δ l d k f) s) q)
+        go false e = let ne : Λ d ≡ l → ⊥ = eqb-false (Λ d) l e in (o .0, omega (arith, o .1))
+
+    module _ (v : Valid (level a n N (marks h Λ Δ) l) n (On N Λ l)) (kernel : Kernel (level a n N (marks h Λ Δ) l) n (On N Λ l) (marks h Λ Δ l)) where
+      pub kernel-passing : Passing (level a n N (marks h Λ Δ) l) n (On N Λ l) (low Δ) (high Δ) (taken n h Λ Δ l)
+      kernel-passing = passing (level a n N (marks h Λ Δ) l) n (marks h Λ Δ l) (low Δ) (high Δ) (rows l) (On N Λ l) v kernel
+
+      -- what its kernel leaves of a valid level is a valid level
+      pub valid-next : Valid (level a n N (marks h Λ Δ) (suc l)) n (On N Λ (suc l))
+      valid-next =
+          let A = level a n N (marks h Λ Δ) l in
+          let m = without-valid A n (On N Λ l) v (low Δ) (high Δ) (taken n h Λ Δ l) kernel-passing N (λ d o. o .0) in
+          rw (level-suc l)
+          (record {
+            inside = λ t d lt o. let r = m .inside t d lt (wider l d o) in narrow (without A (low Δ) (high Δ) (taken n h Λ Δ l) N t d) (r .0) (r .1);
+            twice = λ t d lt o. m .twice t d lt (wider l d o);
+            commute = λ i j d f lj o. m .commute i j d f lj (wider l d o);
+          })
+
+pub base-level : (a : Involutions) (n N h : ℕ) (Λ Δ : ℕ → ℕ) → Valid a n (λ d. d < N) → Valid (level a n N (marks h Λ Δ) zero) n (On N Λ zero)
+unfolding level
+base-level a n N h Λ Δ v = record {
+  inside = λ i d li o. (v .inside i d li (o .0), omega arith);
+  twice = λ i d li o. v .twice i d li (o .0);
+  commute = λ i j d f lj o. v .commute i j d f lj (o .0);
+}
+
 module _ (a : Involutions) (n N h : ℕ) (Λ Δ : ℕ → ℕ) (y : Pyramid a n N h Λ Δ) where
   abbrev pub Level : ℕ → Involutions
   Level l = level a n N (marks h Λ Δ) l
@@ -108,52 +150,19 @@ module _ (a : Involutions) (n N h : ℕ) (Λ Δ : ℕ → ℕ) (y : Pyramid a n 
   abbrev kernel : ℕ → ℕ → Bool
   kernel = taken n h Λ Δ
 
-  -- a dart of level l that is not in kernel l is on level l+1, and the other way round
-  pub narrow : (l d : ℕ) → l < h → On N Λ l d → kernel l d ≡ false → On N Λ (suc l) d
-  narrow l d k o q = go (eqb (Λ d) l) refl
-    where
-      go : (x : Bool) → eqb (Λ d) l ≡ x → On N Λ (suc l) d
-      go true e =
-          let f : Λ d ≡ l = eqb-true (Λ d) l e in
-          let s = allowed-small n h Λ Δ d (y .allowed d (o .0)) (omega arith) in
-          absurd (no-both (kernel l d) (rw (marks-at n h Λ Δ l d k f) s) q)
-      go false e = let ne : Λ d ≡ l → ⊥ = eqb-false (Λ d) l e in (o .0, omega (arith, o .1))
-
-  pub wider : (l d : ℕ) → On N Λ (suc l) d → On N Λ l d × (kernel l d ≡ false)
-  wider l d o = ((o .0, omega (arith, o .1)), go (kernel l d) refl)
-    where
-      go : (x : Bool) → kernel l d ≡ x → kernel l d ≡ false
-      go true q = let t = taken-is n h Λ Δ (y .dimension) l d q in absurd (omega (arith, o .1))
-      go false q = q
-
-  pub kernel-passing : (l : ℕ) → l < h → Valid (Level l) n (On N Λ l) → Passing (Level l) n (On N Λ l) (low Δ) (high Δ) (kernel l)
-  kernel-passing l k v = passing (Level l) n (marks h Λ Δ l) (low Δ) (high Δ) (rows a n N h Λ Δ (y .dimension) l) (On N Λ l) v (y .kernel l k)
-
-  valid-suc : (l : ℕ) → l < h → Valid (Level l) n (On N Λ l) → Valid (Level (suc l)) n (On N Λ (suc l))
-  valid-suc l k v =
-      let m = without-valid (Level l) n (On N Λ l) v (low Δ) (high Δ) (kernel l) (kernel-passing l k v) N (λ d o. o .0) in
-      rw (level-suc a n N h Λ Δ (y .dimension) l)
-      (record {
-        inside = λ t d lt o. let r = m .inside t d lt (wider l d o) in narrow l (without (Level l) (low Δ) (high Δ) (kernel l) N t d) k (r .0) (r .1);
-        twice = λ t d lt o. m .twice t d lt (wider l d o);
-        commute = λ i j d f lj o. m .commute i j d f lj (wider l d o);
-      })
-
   -- every level is a valid map on exactly its survivors
   pub level-valid : (l : ℕ) → l ≤ h → Valid (Level l) n (On N Λ l)
-  unfolding level
-  level-valid zero k = record {
-    inside = λ i d li o. (y .base .inside i d li (o .0), omega arith);
-    twice = λ i d li o. y .base .twice i d li (o .0);
-    commute = λ i j d f lj o. y .base .commute i j d f lj (o .0);
-  }
-  level-valid (suc l) k = valid-suc l k (level-valid l (omega arith))
+  level-valid zero k = base-level a n N h Λ Δ (y .base)
+  level-valid (suc l) k = valid-next a n N h Λ Δ (y .dimension) (y .allowed) l k (level-valid l (omega arith)) (y .kernel l k)
+
+  pub level-passing : (l : ℕ) → l < h → Passing (Level l) n (On N Λ l) (low Δ) (high Δ) (kernel l)
+  level-passing l k = kernel-passing a n N h Λ Δ (y .dimension) (y .allowed) l k (level-valid l (omega arith)) (y .kernel l k)
 
   -- what leads from a dart of level l to its neighbour on level l+1
-  pub level-led : (l : ℕ) (k : l < h) (t d : ℕ) → t ≤ n → On N Λ (suc l) d → Led (Level l) n (On N Λ l) (level-valid l (omega arith)) (low Δ) (high Δ) (kernel l) (kernel-passing l k (level-valid l (omega arith))) N (λ e o. o .0) t d
+  pub level-led : (l : ℕ) (k : l < h) (t d : ℕ) → t ≤ n → On N Λ (suc l) d → Led (Level l) n (On N Λ l) (level-valid l (omega arith)) (low Δ) (high Δ) (kernel l) (level-passing l k) N (λ e o. o .0) t d
   level-led l k t d lt o =
-      let x = wider l d o in
-      led (Level l) n (On N Λ l) (level-valid l (omega arith)) (low Δ) (high Δ) (kernel l) (kernel-passing l k (level-valid l (omega arith))) N (λ e z. z .0) t d lt (x .0) (x .1)
+      let x = wider a n N h Λ Δ (y .dimension) l d o in
+      led (Level l) n (On N Λ l) (level-valid l (omega arith)) (low Δ) (high Δ) (kernel l) (level-passing l k) N (λ e z. z .0) t d lt (x .0) (x .1)
 
   pub gone-suc : (l d : ℕ) → gone Λ l d ≡ true → gone Λ (suc l) d ≡ true
   gone-suc l d q = lt-ltb (Λ d) (suc l) (omega (arith, ltb-true (Λ d) l q))
@@ -171,11 +180,11 @@ module _ (a : Involutions) (n N h : ℕ) (Λ Δ : ℕ → ℕ) (y : Pyramid a n 
   course-suc : (l : ℕ) → l < h → Course l → Course (suc l)
   course-suc l k below t d lt o =
       let v = level-valid l (omega arith) in
-      let x = wider l d o in
+      let x = wider a n N h Λ Δ (y .dimension) l d o in
       let w = level-led l k t d lt o in
-      let g = ground (Level l) n (On N Λ l) v (low Δ) (high Δ) (kernel l) (kernel-passing l k v) in
+      let g = ground (Level l) n (On N Λ l) v (low Δ) (high Δ) (kernel l) (level-passing l k) in
       rw (level-suc a n N h Λ Δ (y .dimension) l)
-      (string a (Level l) (low Δ) (high Δ) (gone Λ l) (kernel l) (gone Λ (suc l)) n (On N Λ l) g (gone-suc l) (gone-taken l) (λ e z q. not-gone (suc l) e (narrow l e k z q)) below
+      (string a (Level l) (low Δ) (high Δ) (gone Λ l) (kernel l) (gone Λ (suc l)) n (On N Λ l) g (gone-suc l) (gone-taken l) (λ e z q. not-gone (suc l) e (narrow a n N h Λ Δ (y .dimension) (y .allowed) l k e z q)) below
       (w .passes) t d t (without (Level l) (low Δ) (high Δ) (kernel l) N t d) lt (x .0) (w .run))
 
   pub course : (l : ℕ) → l ≤ h → Course l

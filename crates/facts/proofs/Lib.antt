@@ -3,3 +3,15 @@ pub mod Runs
 pub mod Removals
 pub mod Kernels
 pub mod Levels
+pub mod Readings
+pub mod Costs
+pub mod Agreement
+pub mod Adding
+pub mod Folding
+pub mod Verdicts
+pub mod Checks
+pub mod AnyTables
+pub mod ByLevels
+pub mod Facts
+pub mod Star
+pub mod Tables

@@ -12,3 +12,12 @@ pub mod ByLevels
 pub mod Cost
 pub mod Pyramid
 pub mod Check
+pub mod Sizes
+pub mod CheckBase
+pub mod CheckPyramid
+pub mod AddLevel
+pub mod MarksBack
+pub mod Read
+pub mod Unfold
+pub mod Row
+pub mod Survivors

@@ -12,6 +12,11 @@ abbrev pub when : Bool → Verdict → Verdict
 when true v = v
 when false v = accepted
 
+-- one value where accepted, another where refused
+abbrev pub ifAccepted : {A : Type 0} → Verdict → A → A → A
+ifAccepted accepted new old = new
+ifAccepted (refused number level involution dart) new old = old
+
 -- the first verdict where it is a refusal, else the second
 infixr 5 _then_
 abbrev pub _then_ : Verdict → Verdict → Verdict

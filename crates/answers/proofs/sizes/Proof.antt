@@ -1,0 +1,41 @@
+-- `answers::sizes` meets its contract. Assumes nothing.
+use native.Mathlib.Omega.{arith}
+use borrow.Author.Tests.{le-leb, lt-leb, lt-ltb, le-ltb}
+use Rattle.maps.specs.Sizes.{sizes, number1, number2, number3}
+use Rattle.answers.proofs.sizes.Statement.{statement}
+use Rattle.answers.proofs.sizes.Tie as tie
+use Rattle.answers.proofs.sizes.Reads as reads
+use Rattle.answers.proofs.sizes.Lts as lts
+
+-- src/lib.rt:48:9
+returns : tie.Need-returns
+unfolding sizes number1 number2 number3
+returns c = let a = c .before .before .args in simp (lt-leb 1 (a .n .0) (omega arith))
+
+-- src/lib.rt:51:9
+returns-2 : tie.Need-returns-2
+unfolding sizes number1 number2 number3
+returns-2 c = let a = c .before .before .before .before .args in simp (le-leb 1 (a .n .0) (omega arith), lt-leb (a .n .0) 4 (omega arith))
+
+-- src/lib.rt:54:9
+returns-3 : tie.Need-returns-3
+unfolding sizes number1 number2 number3
+returns-3 c = let a = c .before .before .before .before .before .args in simp (le-leb 1 (a .n .0) (omega arith), le-leb (a .n .0) 4 (omega arith), lt-leb 1 (a .darts) (omega arith))
+
+-- src/lib.rt:57:9
+returns-4 : tie.Need-returns-4
+unfolding sizes number1 number2 number3
+returns-4 c = let a = c .before .before .before .before .before .before .args in simp (le-leb 1 (a .n .0) (omega arith), le-leb (a .n .0) 4 (omega arith), le-leb 1 (a .darts) (omega arith), lt-leb (a .darts) 4096 (omega arith))
+
+-- src/lib.rt:60:9
+returns-5 : tie.Need-returns-5
+unfolding sizes number1 number2 number3
+returns-5 c = let a = c .before .before .before .before .before .before .before .before .args in simp (le-leb 1 (a .n .0) (omega arith), le-leb (a .n .0) 4 (omega arith), le-leb 1 (a .darts) (omega arith), le-leb (a .darts) 4096 (omega arith), lt-ltb 32 (a .h .0) (omega arith))
+
+-- src/lib.rt:44:1
+returns-6 : tie.Need-returns-6
+unfolding sizes number1 number2 number3
+returns-6 c = let a = c .before .before .before .before .before .before .before .before .args in simp (le-leb 1 (a .n .0) (omega arith), le-leb (a .n .0) 4 (omega arith), le-leb 1 (a .darts) (omega arith), le-leb (a .darts) 4096 (omega arith), le-ltb 32 (a .h .0) (omega arith))
+
+pub sizes-spec : {M : Type 1} → statement M
+sizes-spec = tie.close (tie.spec returns returns-2 returns-3 returns-4 returns-5 returns-6)

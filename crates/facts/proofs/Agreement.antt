@@ -1,0 +1,89 @@
+-- What a removal reads: a survivor's own entry, and the entries of the darts marked. Assumes nothing.
+use mathlib.Core.Path.{_≡_, refl, sym, ap, _∙_}
+use mathlib.Core.Bool.{Bool, true, false}
+use Prim.Native.Nat.{ℕ, zero, suc, _+_, _≤_, _<_}
+use native.Mathlib.Omega.{arith}
+use lib.Dec.{eqb}
+use borrow.Author.Tests.{ltb-true}
+use Rattle.maps.specs.Map.{Involutions, Valid}
+use Rattle.maps.specs.Cell.{Cell, itself, onward}
+use Rattle.maps.specs.Mark.{isMark, between}
+use Rattle.maps.specs.Kernel.{Kernel}
+use Rattle.maps.specs.Removal.{goOn, removal}
+use Rattle.maps.specs.Folded.{level}
+
+-- two tables that agree at the darts marked, and two mark rows that agree at the darts present
+module _ (a a′ : Involutions) (n : ℕ) (present : ℕ → Type 0) (mark mark′ : ℕ → ℕ) (v : Valid a n present) (k : Kernel a n present mark)
+    (agree : (t d : ℕ) → t ≤ n → present d → isMark n (mark d) ≡ true → a t d ≡ a′ t d) (same : (d : ℕ) → present d → mark d ≡ mark′ d) where
+  goOn-local : (times i d : ℕ) → i ≤ n → present d → goOn a n mark times i d ≡ goOn a′ n mark′ times i d
+  unfolding goOn
+  goOn-local zero i d li p = refl
+  goOn-local (suc times) i d li p = go (isMark n (mark d)) refl (eqb (between (mark d) .0) i) refl (λ e z. goOn-local times i e li z)
+    where
+      go : (x : Bool) → isMark n (mark d) ≡ x → (y : Bool) → eqb (between (mark d) .0) i ≡ y → ((e : ℕ) → present e → goOn a n mark times i e ≡ goOn a′ n mark′ times i e) → goOn a n mark (suc times) i d ≡ goOn a′ n mark′ (suc times) i d
+      go false q y r ih = rw (← (same d p), q, goOn)
+      go true q false r ih = rw (← (same d p), q, r, goOn)
+      go true q true r ih =
+          let l : mark d < n = ltb-true (mark d) n q in
+          let u = between (mark d) .1 in
+          let lu : u ≤ n = omega arith in
+          let p₁ = v .inside u d lu p in
+          let w = k .whole d u p q lu (λ e. omega arith) in
+          let q₁ : isMark n (mark (a u d)) ≡ true = rw w q in
+          let s : a i (a u d) ≡ a′ i (a′ u d) = agree i (a u d) li p₁ q₁ ∙ ap (a′ i) (agree u d lu p q) in
+          rw (← (same d p), q, r, goOn, ← (same d p)) (ih (a i (a u d)) (v .inside i (a u d) li p₁) ∙ ap (goOn a′ n mark′ times i) s)
+
+  pub removal-local : (N i b : ℕ) → i ≤ n → present b → a i b ≡ a′ i b → removal a n mark N i b ≡ removal a′ n mark′ N i b
+  unfolding removal
+  removal-local N i b li p e = goOn-local N i (a i b) li (v .inside i b li p) ∙ ap (goOn a′ n mark′ N i) e
+
+-- a kernel of one table is one of another that agrees with it at the darts present
+module _ (a a′ : Involutions) (n : ℕ) (present present′ : ℕ → Type 0) (mark mark′ : ℕ → ℕ) (v : Valid a n present) (k : Kernel a n present mark)
+    (agree : (t d : ℕ) → t ≤ n → present d → a t d ≡ a′ t d) (same : (d : ℕ) → present d → mark d ≡ mark′ d) (sub : (d : ℕ) → present′ d → present d) where
+  cell-same : (δ d e : ℕ) → present d → Cell a′ n δ d e → present e × Cell a n δ d e
+  cell-same δ d e p itself = (p, itself)
+  cell-same δ d _ p (onward e j c lj ne) =
+      let r = cell-same δ d e p c in
+      rw (← (agree j e lj (r .0))) (v .inside j e lj (r .0), onward e j (r .1) lj ne)
+
+  commutes-same : (d e δ : ℕ) → present e → δ + 2 ≤ n → a (δ + 2) (a (δ + 1) e) ≡ a (δ + 1) (a (δ + 2) e) → a′ (δ + 2) (a′ (δ + 1) e) ≡ a′ (δ + 1) (a′ (δ + 2) e)
+  commutes-same d e δ p l c =
+      let i = δ + 1 in
+      let j = δ + 2 in
+      let li : i ≤ n = omega arith in
+      rw (← (agree i e li p), ← (agree j e l p), ← (agree j (a i e) l (v .inside i e li p)), ← (agree i (a j e) li (v .inside j e l p))) c
+
+  pub kernel-same : Kernel a′ n present′ mark′
+  kernel-same = record {
+    whole = λ d j p q lj ne.
+        let p′ = sub d p in
+        let s = same d p′ in
+        let w = k .whole d j p′ (rw s q) lj (rw s ne) in
+        rw (← (agree j d lj p′), ← s, ← (same (a j d) (v .inside j d lj p′))) w;
+    removable = λ d p q l e c.
+        let p′ = sub d p in
+        let s = same d p′ in
+        let r = cell-same (mark′ d) d e p′ c in
+        let q′ : isMark n (mark d) ≡ true = rw s q in
+        commutes-same d e (mark′ d) (r .0) l (rw s at (k .removable d p′ q′) l e (r .1));
+  }
+
+pub valid-same : (a a′ : Involutions) (n : ℕ) (present : ℕ → Type 0) → ((t d : ℕ) → t ≤ n → present d → a t d ≡ a′ t d) → Valid a n present → Valid a′ n present
+valid-same a a′ n present agree v = record {
+  inside = λ i d li p. rw (← (agree i d li p)) (v .inside i d li p);
+  twice = λ i d li p. sym (agree i (a i d) li (v .inside i d li p) ∙ ap (a′ i) (agree i d li p)) ∙ v .twice i d li p;
+  commute = λ i j d f lj p.
+      let li : i ≤ n = omega arith in
+      sym (agree j (a i d) lj (v .inside i d li p) ∙ ap (a′ j) (agree i d li p)) ∙ v .commute i j d f lj p ∙ agree i (a j d) li (v .inside j d lj p) ∙ ap (a′ i) (agree j d lj p);
+}
+
+-- the same kernels give the same levels
+module _ (a : Involutions) (n N h : ℕ) (kernels kernels′ : ℕ → ℕ → ℕ) (present : ℕ → ℕ → Type 0) (down : (l d : ℕ) → present (suc l) d → present l d)
+    (v : (l : ℕ) → l < h → Valid (level a n N kernels l) n (present l)) (k : (l : ℕ) → l < h → Kernel (level a n N kernels l) n (present l) (kernels l))
+    (same : (l d : ℕ) → l < h → present l d → kernels l d ≡ kernels′ l d) where
+  pub level-same : (l : ℕ) → l ≤ h → (i d : ℕ) → i ≤ n → present l d → level a n N kernels l i d ≡ level a n N kernels′ l i d
+  unfolding level
+  level-same zero f i d li p = refl
+  level-same (suc l) f i d li p =
+      let ih = level-same l (omega arith) in
+      removal-local (level a n N kernels l) (level a n N kernels′ l) n (present l) (kernels l) (kernels′ l) (v l f) (k l f) (λ t e lt q r. ih t e lt q) (λ e q. same l e f q) N i d li (down l d p) (ih i d li (down l d p))

@@ -1,0 +1,171 @@
+-- The pyramid check accepts exactly the accepted pyramids. Assumes nothing.
+use mathlib.Core.Path.{_≡_, refl, ap, _∙_}
+use mathlib.Core.Bool.{Bool, true, false, _&&_, not, true≢false}
+use Prim.Native.Nat.{ℕ, zero, suc, _+_, _≤_, _<_}
+use native.Mathlib.Omega.{arith}
+use lib.Dec.{eqb, ltb}
+use borrow.Author.Tests.{ltb-true, lt-ltb, eqb-true, eqb-false, eq-eqb, ne-eqb, not-false}
+use Rattle.maps.specs.Verdict.{accepted, refused, when, _then_, scan}
+use Rattle.maps.specs.Map.{Involutions, Valid}
+use Rattle.maps.specs.Cell.{Cell, itself, onward}
+use Rattle.maps.specs.Mark.{isMark, stay, between}
+use Rattle.maps.specs.Kernel.{Kernel}
+use Rattle.maps.specs.Table.{absent}
+use Rattle.maps.specs.Folded.{On, refusedMarks, marks, level}
+use Rattle.maps.specs.Pyramid.{Pyramid}
+use Rattle.maps.specs.Check.{strays, notTwice, notCommuting, at5, at6, at7, check5, check6, check7, checkMap, leaves, notRemovable, at9, at10, check9, check10, checkKernel, at8, check8, kernelAt, checkKernels, checkPyramid}
+use Rattle.facts.proofs.Verdicts.{then-accepted, when-accepted, scan-accepted, scan-all, and-rest, and-both, and-false}
+use Rattle.facts.proofs.Levels.{taken-is, level-valid, valid-next, base-level}
+
+-- a test that is refused at no place
+not-eq : (x y : ℕ) → x ≡ y → not (eqb x y) ≡ false
+not-eq x y e = rw (eq-eqb x y e)
+
+-- the check of a map: a valid map on the darts present, and nothing but 65,535 at the others
+module _ (a : Involutions) (n N : ℕ) (present : ℕ → Bool) where
+  abbrev pub There : ℕ → Type 0
+  There d = (d < N) × (present d ≡ true)
+
+  pub record Sound : Type 0 where
+    pub valid : Valid a n There
+    pub empty : (i d : ℕ) → i ≤ n → d < N → present d ≡ false → a i d ≡ absent
+
+  pub map-sound : checkMap a n N present ≡ accepted → Sound
+  unfolding at5 at6 at7 check5 check6 check7 checkMap
+  map-sound e =
+      let e₅ = then-accepted (check5 a n N present) (check6 a n N present then check7 a n N present) e in
+      let e₆ = then-accepted (check6 a n N present) (check7 a n N present) (e₅ .1) in
+      let five : (i d : ℕ) → i ≤ n → d < N → strays a n N present i d ≡ false = λ i d li ld. when-accepted (strays a n N present i d) 5 0 i d (scan-accepted N (at5 a n N present i) (scan-accepted (suc n) (λ i. scan N (at5 a n N present i)) (e₅ .0) i (omega arith)) d ld) in
+      let six : (i d : ℕ) → i ≤ n → d < N → notTwice a n N present i d ≡ false = λ i d li ld. when-accepted (notTwice a n N present i d) 6 0 i d (scan-accepted N (at6 a n N present i) (scan-accepted (suc n) (λ i. scan N (at6 a n N present i)) (e₆ .0) i (omega arith)) d ld) in
+      let seven : (i j d : ℕ) → i ≤ n → j ≤ n → d < N → notCommuting a n N present i j d ≡ false = λ i j d li lj ld. when-accepted (notCommuting a n N present i j d) 7 0 i d (scan-accepted N (at7 a n N present i j) (scan-accepted (suc n) (λ j. scan N (at7 a n N present i j)) (scan-accepted (suc n) (λ i. scan (suc n) (λ j. scan N (at7 a n N present i j))) (e₆ .1) i (omega arith)) j (omega arith)) d ld) in
+      record {
+        valid = record {
+          inside = λ i d li p.
+              let r = not-false (ltb (a i d) N && present (a i d)) (rw (p .1) at (five i d li (p .0))) in
+              let w = and-both (ltb (a i d) N) (present (a i d)) r in
+              (ltb-true (a i d) N (w .0), w .1);
+          twice = λ i d li p. eqb-true (a i (a i d)) d (not-false (eqb (a i (a i d)) d) (and-rest (present d) (not (eqb (a i (a i d)) d)) (p .1) (six i d li (p .0))));
+          commute = λ i j d f lj p.
+              let X = eqb (a j (a i d)) (a i (a j d)) in
+              eqb-true (a j (a i d)) (a i (a j d)) (not-false X (and-rest (ltb (i + 1) j) (not X) (lt-ltb (i + 1) j (omega arith)) (and-rest (present d) (ltb (i + 1) j && not X) (p .1) (seven i j d (omega arith) lj (p .0)))));
+        };
+        empty = λ i d li ld q. eqb-true (a i d) absent (not-false (eqb (a i d) absent) (rw q at (five i d li ld)));
+      }
+
+  pub sound-map : Sound → checkMap a n N present ≡ accepted
+  unfolding at5 at6 at7 check5 check6 check7 checkMap
+  sound-map s =
+      let v = s .valid in
+      let five : (i d : ℕ) → i ≤ n → d < N → strays a n N present i d ≡ false = λ i d li ld. five-at s i d li ld (present d) refl in
+      let six : (i d : ℕ) → i ≤ n → d < N → notTwice a n N present i d ≡ false = λ i d li ld. and-false (present d) (not (eqb (a i (a i d)) d)) (λ p. not-eq (a i (a i d)) d (v .twice i d li (ld, p))) in
+      let seven : (i j d : ℕ) → i ≤ n → j ≤ n → d < N → notCommuting a n N present i j d ≡ false = λ i j d li lj ld.
+      and-false (present d) (ltb (i + 1) j && not (eqb (a j (a i d)) (a i (a j d)))) (λ p. and-false (ltb (i + 1) j) (not (eqb (a j (a i d)) (a i (a j d)))) (λ f. not-eq (a j (a i d)) (a i (a j d)) (v .commute i j d (omega (arith, ltb-true (i + 1) j f)) lj (ld, p)))) in
+      rw (
+        scan-all (suc n) (λ i. scan N (at5 a n N present i)) (λ i li. scan-all N (at5 a n N present i) (λ d ld. ap (λ (t : Bool). when t (refused 5 0 i d)) (five i d (omega arith) ld))),
+        scan-all (suc n) (λ i. scan N (at6 a n N present i)) (λ i li. scan-all N (at6 a n N present i) (λ d ld. ap (λ (t : Bool). when t (refused 6 0 i d)) (six i d (omega arith) ld))),
+        scan-all (suc n) (λ i. scan (suc n) (λ j. scan N (at7 a n N present i j))) (λ i li. scan-all (suc n) (λ j. scan N (at7 a n N present i j)) (λ j lj.
+            scan-all N (at7 a n N present i j) (λ d ld. ap (λ (t : Bool). when t (refused 7 0 i d)) (seven i j d (omega arith) (omega arith) ld)))),
+      )
+    where
+      five-at : Sound → (i d : ℕ) → i ≤ n → d < N → (x : Bool) → present d ≡ x → strays a n N present i d ≡ false
+      five-at s i d li ld true q = let w = s .valid .inside i d li (ld, q) in rw (q, lt-ltb (a i d) N (w .0), w .1)
+      five-at s i d li ld false q = rw q (not-eq (a i d) absent (s .empty i d li ld q))
+
+-- the check of a kernel
+module _ (a : Involutions) (n N : ℕ) (mark : ℕ → ℕ) (l : ℕ) (present : ℕ → Type 0) (v : Valid a n present) (bound : (d : ℕ) → present d → d < N) where
+  -- from a dart of the kernel its whole cell is in it
+  module _ (whole : (d j : ℕ) → present d → isMark n (mark d) ≡ true → j ≤ n → (j ≡ between (mark d) .0 → ⊥) → mark (a j d) ≡ mark d) where
+    cell-marked : (d e : ℕ) → present d → isMark n (mark d) ≡ true → Cell a n (mark d) d e → present e × (mark e ≡ mark d)
+    cell-marked d e p q itself = (p, refl)
+    cell-marked d _ p q (onward e j c lj ne) =
+        let r = cell-marked d e p q c in
+        (v .inside j e lj (r .0), whole e j (r .0) (rw (r .1) q) lj (λ z. ne (z ∙ r .1)) ∙ r .1)
+
+  pub kernel-sound : checkKernel a n N mark l ≡ accepted → Kernel a n present mark
+  unfolding at9 at10 check9 check10 checkKernel
+  kernel-sound e =
+      let e₉ = then-accepted (check9 a n N mark l) (check10 a n N mark l) e in
+      let nine : (d j : ℕ) → d < N → j ≤ n → leaves a n N mark l d j ≡ false = λ d j ld lj. when-accepted (leaves a n N mark l d j) 9 l j d (scan-accepted (suc n) (at9 a n N mark l d) (scan-accepted N (λ d. scan (suc n) (at9 a n N mark l d)) (e₉ .0) d ld) j (omega arith)) in
+      let ten : (d : ℕ) → d < N → notRemovable a n N mark l d ≡ false = λ d ld. when-accepted (notRemovable a n N mark l d) 10 l (mark d + 1) d (scan-accepted N (at10 a n N mark l) (e₉ .1) d ld) in
+      let whole : (d j : ℕ) → present d → isMark n (mark d) ≡ true → j ≤ n → (j ≡ between (mark d) .0 → ⊥) → mark (a j d) ≡ mark d = λ d j p q lj ne.
+      let X = eqb (mark (a j d)) (mark d) in
+      let r = and-rest (isMark n (mark d)) (not (eqb j (between (mark d) .0)) && not X) q (nine d j (bound d p) lj) in
+      eqb-true (mark (a j d)) (mark d) (not-false X (and-rest (not (eqb j (between (mark d) .0))) (not X) (rw (ne-eqb j (between (mark d) .0) ne)) r)) in
+      record {
+        whole = whole;
+        removable = λ d p q f e c.
+            let r = cell-marked whole d e p q c in
+            let X = eqb (a (mark e + 2) (a (mark e + 1) e)) (a (mark e + 1) (a (mark e + 2) e)) in
+            let f′ : mark e + 1 < n = omega (arith, r .1) in
+            let s = and-rest (isMark n (mark e)) (ltb (mark e + 1) n && not X) (rw (r .1) q) (ten e (bound e (r .0))) in
+            let t = eqb-true (a (mark e + 2) (a (mark e + 1) e)) (a (mark e + 1) (a (mark e + 2) e)) (not-false X (and-rest (ltb (mark e + 1) n) (not X) (lt-ltb (mark e + 1) n f′) s)) in
+            rw (r .1) at t;
+      }
+
+  pub sound-kernel : ((d : ℕ) → d < N → isMark n (mark d) ≡ true → present d) → Kernel a n present mark → checkKernel a n N mark l ≡ accepted
+  unfolding at9 at10 check9 check10 checkKernel
+  sound-kernel marked k =
+      let nine : (d j : ℕ) → d < N → j ≤ n → leaves a n N mark l d j ≡ false = λ d j ld lj.
+      and-false (isMark n (mark d)) (not (eqb j (between (mark d) .0)) && not (eqb (mark (a j d)) (mark d))) (λ q. leaves-at d j ld lj q (eqb j (between (mark d) .0)) refl marked k) in
+      let ten : (d : ℕ) → d < N → notRemovable a n N mark l d ≡ false = λ d ld.
+      let X = eqb (a (mark d + 2) (a (mark d + 1) d)) (a (mark d + 1) (a (mark d + 2) d)) in
+      and-false (isMark n (mark d)) (ltb (mark d + 1) n && not X) (λ q. and-false (ltb (mark d + 1) n) (not X) (λ f.
+      not-eq (a (mark d + 2) (a (mark d + 1) d)) (a (mark d + 1) (a (mark d + 2) d)) (k .removable d (marked d ld q) q (omega (arith, ltb-true (mark d + 1) n f)) d itself))) in
+      rw (
+        scan-all N (λ d. scan (suc n) (at9 a n N mark l d)) (λ d ld. scan-all (suc n) (at9 a n N mark l d) (λ j lj. ap (λ (t : Bool). when t (refused 9 l j d)) (nine d j ld (omega arith)))),
+        scan-all N (at10 a n N mark l) (λ d ld. ap (λ (t : Bool). when t (refused 10 l (mark d + 1) d)) (ten d ld)),
+      )
+    where
+      leaves-at : (d j : ℕ) → d < N → j ≤ n → isMark n (mark d) ≡ true → (x : Bool) → eqb j (between (mark d) .0) ≡ x → ((d : ℕ) → d < N → isMark n (mark d) ≡ true → present d) → Kernel a n present mark → (not (eqb j (between (mark d) .0)) && not (eqb (mark (a j d)) (mark d))) ≡ false
+      leaves-at d j ld lj q true e marked k = rw e
+      leaves-at d j ld lj q false e marked k = rw e (not-eq (mark (a j d)) (mark d) (k .whole d j (marked d ld q) q lj (eqb-false j (between (mark d) .0) e)))
+
+-- the whole pyramid
+module _ (a : Involutions) (n N h : ℕ) (Λ Δ : ℕ → ℕ) (ln : n ≤ stay) where
+  base-valid : Valid a n (λ d. d < N) → Sound a n N (λ d. true)
+  base-valid v = record {
+    valid = record { inside = λ i d li p. (v .inside i d li (p .0), refl); twice = λ i d li p. v .twice i d li (p .0); commute = λ i j d f lj p. v .commute i j d f lj (p .0) };
+    empty = λ i d li ld q. absurd (true≢false q);
+  }
+
+  valid-base : Sound a n N (λ d. true) → Valid a n (λ d. d < N)
+  valid-base s = record { inside = λ i d li p. s .valid .inside i d li (p, refl) .0; twice = λ i d li p. s .valid .twice i d li (p, refl); commute = λ i j d f lj p. s .valid .commute i j d f lj (p, refl) }
+
+  marked-on : (l d : ℕ) → d < N → isMark n (marks h Λ Δ l d) ≡ true → On N Λ l d
+  marked-on l d ld q = let t = taken-is n h Λ Δ ln l d q in (ld, omega arith)
+
+  module _ (base : Valid a n (λ d. d < N)) (allowed : (d : ℕ) → d < N → refusedMarks n h (Λ d) (Δ d) ≡ false)
+      (checked : (l : ℕ) → l < h → checkKernel (level a n N (marks h Λ Δ) l) n N (marks h Λ Δ l) l ≡ accepted) where
+    -- level k is valid and the kernels below it are kernels: each is tested on its own level
+    upto : (k : ℕ) → k ≤ h → Valid (level a n N (marks h Λ Δ) k) n (On N Λ k) × ((l : ℕ) → l < k → Kernel (level a n N (marks h Λ Δ) l) n (On N Λ l) (marks h Λ Δ l))
+    upto zero z = (base-level a n N h Λ Δ base, λ l f. absurd (omega arith))
+    upto (suc k) z =
+        let r = upto k (omega arith) in
+        let new = kernel-sound (level a n N (marks h Λ Δ) k) n N (marks h Λ Δ k) k (On N Λ k) (r .0) (λ d o. o .0) (checked k z) in
+        (valid-next a n N h Λ Δ ln allowed k z (r .0) new, λ l f. go l f (eqb l k) refl new (r .1))
+      where
+        go : (l : ℕ) → l < suc k → (x : Bool) → eqb l k ≡ x → Kernel (level a n N (marks h Λ Δ) k) n (On N Λ k) (marks h Λ Δ k) → ((l : ℕ) → l < k → Kernel (level a n N (marks h Λ Δ) l) n (On N Λ l) (marks h Λ Δ l))
+            → Kernel (level a n N (marks h Λ Δ) l) n (On N Λ l) (marks h Λ Δ l)
+        go l f true e new below = rw (eqb-true l k e) new
+        go l f false e new below = let ne : l ≡ k → ⊥ = eqb-false l k e in below l (omega arith)
+
+  -- what the check accepts is an accepted pyramid
+  pub check-pyramid : checkPyramid a n N h Λ Δ ≡ accepted → Pyramid a n N h Λ Δ
+  unfolding at8 check8 kernelAt checkKernels checkPyramid
+  check-pyramid e =
+      let e₁ = then-accepted (checkMap a n N (λ d. true)) (check8 a n N h Λ Δ then checkKernels a n N h Λ Δ) e in
+      let e₂ = then-accepted (check8 a n N h Λ Δ) (checkKernels a n N h Λ Δ) (e₁ .1) in
+      let base = valid-base (map-sound a n N (λ d. true) (e₁ .0)) in
+      let allowed : (d : ℕ) → d < N → refusedMarks n h (Λ d) (Δ d) ≡ false = λ d ld. when-accepted (refusedMarks n h (Λ d) (Δ d)) 8 0 0 d (scan-accepted N (at8 a n N h Λ Δ) (e₂ .0) d ld) in
+      record { dimension = ln; base = base; allowed = allowed; kernel = upto base allowed (λ l f. scan-accepted h (kernelAt a n N h Λ Δ) (e₂ .1) l f) h (omega arith) .1 }
+
+  -- and an accepted pyramid is accepted by the check
+  pub pyramid-check : Pyramid a n N h Λ Δ → checkPyramid a n N h Λ Δ ≡ accepted
+  unfolding at8 check8 kernelAt checkKernels checkPyramid
+  pyramid-check y =
+      rw (
+        sound-map a n N (λ d. true) (base-valid (y .base)),
+        scan-all N (at8 a n N h Λ Δ) (λ d ld. ap (λ (t : Bool). when t (refused 8 0 0 d)) (y .allowed d ld)),
+        scan-all h (kernelAt a n N h Λ Δ) (λ l f.
+            sound-kernel (level a n N (marks h Λ Δ) l) n N (marks h Λ Δ l) l (On N Λ l) (level-valid a n N h Λ Δ y l (omega arith)) (λ d o. o .0) (marked-on l) (y .kernel l f)),
+      )

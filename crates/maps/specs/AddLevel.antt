@@ -1,0 +1,52 @@
+-- Add a level: the pyramid's check, with the mark row last, as kernel h. Assumes nothing: these are definitions.
+use mathlib.Core.Bool.{Bool, true, cond, _&&_, not}
+use mathlib.Core.List.{List}
+use Prim.Native.Nat.{ℕ, suc, _*_}
+use lib.Dec.{eqb}
+use Rattle.maps.specs.Verdict.{Verdict, refused, when, ifAccepted, _then_, scan}
+use Rattle.maps.specs.Sizes.{sizes, number4, hasLength}
+use Rattle.maps.specs.Mark.{isMark, stay}
+use Rattle.maps.specs.Table.{entry, each, listed}
+use Rattle.maps.specs.Folded.{marks, addΛ, addΔ, level, levelTable}
+use Rattle.maps.specs.Check.{checkMap, check8, checkKernels, checkKernel}
+use Rattle.maps.specs.CheckPyramid.{leftBehind}
+
+module _ (n N h : ℕ) (rows lambda delta row table : List ℕ) where
+  -- 8 of a mark row (level h): below n, remove; 255, stay; a dart not on level h must have 255
+  abbrev pub refusedMark : ℕ → Bool
+  refusedMark d = not (cond (isMark n (each row d)) (eqb (each lambda d) h) (eqb (each row d) stay))
+
+  unfoldable pub atRow8 : ℕ → Verdict
+  atRow8 d = when (refusedMark d) (refused 8 h 0 d)
+
+  -- 20: a level is added at h = 32
+  unfoldable pub number20 : Verdict
+  number20 = when (eqb h 32) (refused 20 0 0 0)
+
+  -- 1 2 3 4 20 5 6 7 8 9 10; of 8, Λ and Δ rows before the mark row
+  unfoldable pub addLent : Verdict
+  addLent =
+      sizes n N h
+      then (number4 (hasLength rows (suc n * N) && (hasLength lambda N && (hasLength delta N && (hasLength row N && hasLength table (suc n * N)))))
+      then (number20
+      then (checkMap (entry N rows) n N (λ d. true)
+      then (check8 (entry N rows) n N h (each lambda) (each delta)
+      then (scan N atRow8
+      then (checkKernels (entry N rows) n N h (each lambda) (each delta)
+      then checkKernel (level (entry N rows) n N (marks h (each lambda) (each delta)) h) n N (each row) h))))))
+
+  -- Accepted: h grows by 1, darts marked get Λ = old h and that Δ, the other survivors Λ = new h. Refused: all as found.
+  unfoldable pub addHeight : ℕ
+  addHeight = ifAccepted addLent (suc h) h
+
+  unfoldable pub addLambda : List ℕ
+  addLambda = ifAccepted addLent (listed (addΛ n h (each lambda) (each row)) N) lambda
+
+  unfoldable pub addDelta : List ℕ
+  addDelta = ifAccepted addLent (listed (addΔ n (each delta) (each row)) N) delta
+
+  -- and the table holds the new top level
+  unfoldable pub addLeaves : List ℕ
+  addLeaves =
+      leftBehind (levelTable (entry N rows) n N (suc h) (addΛ n h (each lambda) (each row)) (addΔ n (each delta) (each row)) (suc h))
+      (levelTable (entry N rows) n N h (each lambda) (each delta)) table addLent

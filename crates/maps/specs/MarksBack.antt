@@ -1,0 +1,21 @@
+-- The mark row of a level, read back out of Λ and Δ into a lent row. Assumes nothing: these are definitions.
+use mathlib.Core.Bool.{_&&_}
+use mathlib.Core.List.{List}
+use Prim.Native.Nat.{ℕ}
+use Rattle.maps.specs.Verdict.{Verdict, refused, when, ifAccepted, _then_, scan}
+use Rattle.maps.specs.Sizes.{sizes, number4, number11, hasLength}
+use Rattle.maps.specs.Table.{each, listed}
+use Rattle.maps.specs.Folded.{refusedMarks, marks}
+
+module _ (n N h : ℕ) (lambda delta : List ℕ) (l : ℕ) (out : List ℕ) where
+  -- marks read back give 8 the level asked, involution 0
+  unfoldable pub atMarks8 : ℕ → Verdict
+  atMarks8 d = when (refusedMarks n h (each lambda d) (each delta d)) (refused 8 l 0 d)
+
+  -- 1 2 3 4 11 8
+  unfoldable pub marksLent : Verdict
+  marksLent = sizes n N h then (number4 (hasLength lambda N && (hasLength delta N && hasLength out N)) then (number11 h l 0 0 then scan N atMarks8))
+
+  -- Δ where Λ is that level, else 255; for level h all 255. After a refusal nothing lent has changed.
+  unfoldable pub marksLeaves : List ℕ
+  marksLeaves = ifAccepted marksLent (listed (marks h (each lambda) (each delta) l) N) out

@@ -1,0 +1,50 @@
+-- Unfold a whole level into a lent table by direct walks, with the total count. Assumes nothing: these are definitions.
+use mathlib.Core.Bool.{true, false, cond, _&&_, _||_}
+use mathlib.Core.List.{List}
+use Prim.Native.Nat.{ℕ, suc, _*_}
+use lib.ListN.{length}
+use lib.Dec.{eqb}
+use Rattle.maps.specs.Verdict.{Verdict, accepted, refused, ifAccepted, _then_, scan}
+use Rattle.maps.specs.Sizes.{sizes, number4, number11, hasLength}
+use Rattle.maps.specs.Table.{entry, each, listed, absent, explicit}
+use Rattle.maps.specs.Folded.{survives}
+use Rattle.maps.specs.Walk.{Walked, ended, stopped, walk}
+use Rattle.maps.specs.Cost.{cost}
+use Rattle.maps.specs.MarksBack.{atMarks8}
+
+-- a walk's refusal, with the level asked
+abbrev pub walkVerdict : ℕ → Walked → Verdict
+walkVerdict l (ended row dart count) = accepted
+walkVerdict l (stopped number row dart) = refused number l row dart
+
+-- the dart where a walk ends
+abbrev pub dartOf : Walked → ℕ
+dartOf (ended row dart count) = dart
+dartOf (stopped number row dart) = 0
+
+module _ (n N h : ℕ) (rows lambda delta : List ℕ) (l : ℕ) (table : List ℕ) where
+  abbrev pub walkAt : ℕ → ℕ → Walked
+  walkAt i d = walk (entry N rows) n N h (each lambda) (each delta) l i d
+
+  unfoldable pub atWalk : ℕ → ℕ → Verdict
+  atWalk i d = elim (survives (each lambda) l d) [ true ↦ walkVerdict l (walkAt i d) | false ↦ accepted ]
+
+  -- 1 2 3 4 11, then 8 over all darts (the level asked, involution 0), then the walks, by involution, then dart
+  unfoldable pub unfoldLent : Verdict
+  unfoldLent =
+      sizes n N h
+      then (number4 (hasLength rows (suc n * N) && (hasLength lambda N && (hasLength delta N && hasLength table (suc n * N))))
+      then (number11 h l 0 0 then (scan N (atMarks8 n N h lambda delta l table)
+      then scan (suc n) (λ i. scan N (atWalk i)))))
+
+  -- Counts are 0 in a refusal.
+  unfoldable pub unfoldTotal : ℕ
+  unfoldTotal = ifAccepted unfoldLent (cost (entry N rows) n N h (each lambda) (each delta) l) 0
+
+  -- After 5, 14 or 15 the table is 65,535 throughout; after any other refusal nothing lent has changed.
+  abbrev pub unfolded : Verdict → List ℕ → List ℕ
+  unfolded accepted new = new
+  unfolded (refused number level involution dart) new = cond (eqb number 5 || (eqb number 14 || eqb number 15)) (listed (λ x. absent) (length table)) table
+
+  unfoldable pub unfoldLeaves : List ℕ
+  unfoldLeaves = unfolded unfoldLent (explicit (λ i d. dartOf (walkAt i d)) n N (survives (each lambda) l))
