@@ -12,10 +12,12 @@ use Rattle.maps.specs.Kernel.{Kernel}
 use Rattle.maps.specs.Removal.{goOn, removal}
 use Rattle.maps.specs.Folded.{level}
 
--- two tables that agree at the darts marked, and two mark rows that agree at the darts present
-module _ (a a′ : Involutions) (n : ℕ) (present : ℕ → Type 0) (mark mark′ : ℕ → ℕ) (v : Valid a n present) (k : Kernel a n present mark)
+-- Two tables that agree at the darts marked, and two mark rows that agree at the darts present. A dart marked is passed to one of the same mark.
+module _ (a a′ : Involutions) (n : ℕ) (present : ℕ → Type 0) (mark mark′ : ℕ → ℕ)
+    (inside : (t d : ℕ) → t ≤ n → present d → isMark n (mark d) ≡ true → present (a t d))
+    (whole : (d : ℕ) → present d → isMark n (mark d) ≡ true → mark (a (between (mark d) .1) d) ≡ mark d)
     (agree : (t d : ℕ) → t ≤ n → present d → isMark n (mark d) ≡ true → a t d ≡ a′ t d) (same : (d : ℕ) → present d → mark d ≡ mark′ d) where
-  goOn-local : (times i d : ℕ) → i ≤ n → present d → goOn a n mark times i d ≡ goOn a′ n mark′ times i d
+  pub goOn-local : (times i d : ℕ) → i ≤ n → present d → goOn a n mark times i d ≡ goOn a′ n mark′ times i d
   unfolding goOn
   goOn-local zero i d li p = refl
   goOn-local (suc times) i d li p = go (isMark n (mark d)) refl (eqb (between (mark d) .0) i) refl (λ e z. goOn-local times i e li z)
@@ -27,15 +29,20 @@ module _ (a a′ : Involutions) (n : ℕ) (present : ℕ → Type 0) (mark mark�
           let l : mark d < n = ltb-true (mark d) n q in
           let u = between (mark d) .1 in
           let lu : u ≤ n = omega arith in
-          let p₁ = v .inside u d lu p in
-          let w = k .whole d u p q lu (λ e. omega arith) in
-          let q₁ : isMark n (mark (a u d)) ≡ true = rw w q in
+          let p₁ = inside u d lu p q in
+          let q₁ : isMark n (mark (a u d)) ≡ true = rw (whole d p q) q in
           let s : a i (a u d) ≡ a′ i (a′ u d) = agree i (a u d) li p₁ q₁ ∙ ap (a′ i) (agree u d lu p q) in
-          rw (← (same d p), q, r, goOn, ← (same d p)) (ih (a i (a u d)) (v .inside i (a u d) li p₁) ∙ ap (goOn a′ n mark′ times i) s)
+          rw (← (same d p), q, r, goOn, ← (same d p)) (ih (a i (a u d)) (inside i (a u d) li p₁ q₁) ∙ ap (goOn a′ n mark′ times i) s)
+
+-- in a valid map with a kernel
+module _ (a a′ : Involutions) (n : ℕ) (present : ℕ → Type 0) (mark mark′ : ℕ → ℕ) (v : Valid a n present) (k : Kernel a n present mark)
+    (agree : (t d : ℕ) → t ≤ n → present d → isMark n (mark d) ≡ true → a t d ≡ a′ t d) (same : (d : ℕ) → present d → mark d ≡ mark′ d) where
+  pub passed-whole : (d : ℕ) → present d → isMark n (mark d) ≡ true → mark (a (between (mark d) .1) d) ≡ mark d
+  passed-whole d p q = let l = ltb-true (mark d) n q in k .whole d (between (mark d) .1) p q (omega arith) (λ e. omega arith)
 
   pub removal-local : (N i b : ℕ) → i ≤ n → present b → a i b ≡ a′ i b → removal a n mark N i b ≡ removal a′ n mark′ N i b
   unfolding removal
-  removal-local N i b li p e = goOn-local N i (a i b) li (v .inside i b li p) ∙ ap (goOn a′ n mark′ N i) e
+  removal-local N i b li p e = goOn-local a a′ n present mark mark′ (λ t d lt p q. v .inside t d lt p) passed-whole agree same N i (a i b) li (v .inside i b li p) ∙ ap (goOn a′ n mark′ N i) e
 
 -- a kernel of one table is one of another that agrees with it at the darts present
 module _ (a a′ : Involutions) (n : ℕ) (present present′ : ℕ → Type 0) (mark mark′ : ℕ → ℕ) (v : Valid a n present) (k : Kernel a n present mark)

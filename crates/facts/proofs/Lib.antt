@@ -15,3 +15,4 @@ pub mod ByLevels
 pub mod Facts
 pub mod Star
 pub mod Tables
+pub mod Stored

@@ -3,7 +3,7 @@ use mathlib.Core.Path.{_≡_, refl, sym, ap, _∙_}
 use mathlib.Core.Bool.{Bool, true, false, cond}
 use mathlib.Core.List.{List, [], _∷_, _++_}
 use Prim.Native.Nat.{ℕ, zero, suc, _+_, _*_, _/_, _%_, _≤_, _<_}
-use native.Mathlib.Nat.{mul-le-mul-right, suc-mul}
+use native.Mathlib.Nat.{mul-le-mul-right, suc-mul, div-lt-iff-lt-mul, mod-lt, div-add-mod'}
 use native.Mathlib.Omega.{arith}
 use lib.ListN.{length, getD, set, length-append, List·getD-append}
 use lib.Seq.{getD-append-seam, ext-getD, getD-set-same, getD-set-other}
@@ -76,3 +76,27 @@ entry-explicit a n N present i d li ld =
 pub length-explicit : (a : Involutions) (n N : ℕ) (present : ℕ → Bool) → length (explicit a n N present) ≡ suc n * N
 unfolding explicit
 length-explicit a n N present = length-listed (λ x. cond (present (x % N)) (a (x / N) (x % N)) absent) (suc n * N)
+
+-- a place of a table is an entry of a row and a dart
+pub place : (n N x : ℕ) → x < suc n * N → (x / N ≤ n) × (x % N < N) × (x / N * N + x % N ≡ x)
+place n zero x l = absurd (omega arith)
+place n (suc N) x l =
+    let pos : 0 < suc N = omega arith in
+    let q : x / suc N < suc n = div-lt-iff-lt-mul {k = suc N} {x = x} {y = suc n} pos .1 l in
+    (omega arith, mod-lt x pos, div-add-mod' x (suc N))
+
+-- a list whose entries are those of an explicit table is that table
+pub explicit-of : (a : Involutions) (n N : ℕ) (present : ℕ → Bool) (table : List ℕ) → length table ≡ suc n * N
+    → ((i d : ℕ) → i ≤ n → d < N → entry N table i d ≡ cond (present d) (a i d) absent) → table ≡ explicit a n N present
+unfolding explicit
+explicit-of a n N present table e h =
+    listed-of (λ x. cond (present (x % N)) (a (x / N) (x % N)) absent) (suc n * N) table e
+    (λ x l. let p = place n N x l in ap (λ (y : ℕ). getD table y 0) (sym (p .2)) ∙ h (x / N) (x % N) (p .0) (p .1))
+
+pub explicit-same : (a b : Involutions) (n N : ℕ) (p q : ℕ → Bool) → ((d : ℕ) → d < N → p d ≡ q d) → ((i d : ℕ) → i ≤ n → d < N → q d ≡ true → a i d ≡ b i d) → explicit a n N p ≡ explicit b n N q
+explicit-same a b n N p q same agree =
+    explicit-of b n N q (explicit a n N p) (length-explicit a n N p) (λ i d li ld. entry-explicit a n N p i d li ld ∙ rw (same d ld) (go i d li ld (q d) refl))
+  where
+    go : (i d : ℕ) → i ≤ n → d < N → (x : Bool) → q d ≡ x → cond x (a i d) absent ≡ cond x (b i d) absent
+    go i d li ld true e = agree i d li ld e
+    go i d li ld false e = refl

@@ -1,0 +1,106 @@
+-- A valid map stored as an explicit table: the table's entries are the map's, its checks and removals are those of the map. Assumes nothing.
+use mathlib.Core.Path.{_≡_, refl, sym, _∙_}
+use mathlib.Core.Bool.{Bool, true, false, _&&_, not}
+use mathlib.Core.List.{List}
+use Prim.Native.Nat.{ℕ, suc, _+_, _≤_, _<_}
+use native.Mathlib.Omega.{arith}
+use lib.Dec.{ltb}
+use borrow.Author.Tests.{ltb-true, ne-eqb, eq-eqb}
+use Rattle.maps.specs.Verdict.{refused, when, scan}
+use Rattle.maps.specs.Map.{Involutions, Valid}
+use Rattle.maps.specs.Mark.{isMark}
+use Rattle.maps.specs.Kernel.{Kernel}
+use Rattle.maps.specs.Removal.{removal}
+use Rattle.maps.specs.Table.{entry, absent, explicit}
+use Rattle.maps.specs.Check.{leaves, notRemovable, at9, at10, check9, check10}
+use Rattle.maps.specs.CheckBase.{present}
+use Rattle.facts.proofs.Verdicts.{scan-same, and-both}
+use Rattle.facts.proofs.Tables.{entry-explicit, explicit-same}
+use Rattle.facts.proofs.Agreement.{removal-local, kernel-same, valid-same}
+use Rattle.facts.proofs.Checks.{There, Sound}
+
+-- a map a on the darts d < N with `on d`
+module _ (a : Involutions) (n N : ℕ) (on : ℕ → Bool) (few : N ≤ absent) (v : Valid a n (There a n N on)) where
+  abbrev T : List ℕ
+  T = explicit a n N on
+
+  pub stored : (i d : ℕ) → i ≤ n → There a n N on d → a i d ≡ entry N T i d
+  stored i d li o = sym (entry-explicit a n N on i d li (o .0) ∙ rw (o .1))
+
+  pub stored-absent : (i d : ℕ) → i ≤ n → d < N → on d ≡ false → entry N T i d ≡ absent
+  stored-absent i d li ld q = entry-explicit a n N on i d li ld ∙ rw q
+
+  -- a dart is present in the table where it is on the level
+  pub stored-present : (d : ℕ) → d < N → present N T d ≡ on d
+  stored-present d ld = go (on d) refl
+    where
+      go : (x : Bool) → on d ≡ x → present N T d ≡ x
+      go true q =
+          let w = v .inside 0 d (omega arith) (ld, q) in
+          let e : entry N T 0 d ≡ a 0 d = sym (stored 0 d (omega arith) (ld, q)) in
+          rw (ne-eqb (entry N T 0 d) absent (λ z. omega (arith, w .0)))
+      go false q = rw (eq-eqb (entry N T 0 d) absent (stored-absent 0 d (omega arith) ld q))
+
+  to-there : (d : ℕ) → There (entry N T) n N (present N T) d → There a n N on d
+  to-there d p = (p .0, sym (stored-present d (p .0)) ∙ p .1)
+
+  from-there : (d : ℕ) → There a n N on d → There (entry N T) n N (present N T) d
+  from-there d p = (p .0, stored-present d (p .0) ∙ p .1)
+
+  pub stored-sound : Sound (entry N T) n N (present N T)
+  stored-sound =
+      let w = valid-same a (entry N T) n (There a n N on) stored v in
+      record {
+        valid = record {
+          inside = λ i d li p. from-there (entry N T i d) (w .inside i d li (to-there d p));
+          twice = λ i d li p. w .twice i d li (to-there d p);
+          commute = λ i j d f lj p. w .commute i j d f lj (to-there d p);
+        };
+        empty = λ i d li ld q. stored-absent i d li ld (sym (stored-present d ld) ∙ q);
+      }
+
+  -- a mark row that marks only darts of the level
+  module _ (mark : ℕ → ℕ) (marked : (d : ℕ) → d < N → isMark n (mark d) ≡ true → on d ≡ true) where
+    pub stored-kernel : Kernel a n (There a n N on) mark → Kernel (entry N T) n (There (entry N T) n N (present N T)) mark
+    stored-kernel k = kernel-same a (entry N T) n (There a n N on) (There (entry N T) n N (present N T)) mark mark v k stored (λ d o. refl) to-there
+
+    at9-same : (l d j : ℕ) → d < N → j ≤ n → at9 (entry N T) n N mark l d j ≡ at9 a n N mark l d j
+    unfolding at9
+    at9-same l d j ld lj = go (isMark n (mark d)) refl
+      where
+        go : (x : Bool) → isMark n (mark d) ≡ x → when (leaves (entry N T) n N mark l d j) (refused 9 l j d) ≡ when (leaves a n N mark l d j) (refused 9 l j d)
+        go true q = rw (q, stored j d lj (ld, marked d ld q))
+        go false q = rw q
+
+    at10-same : (l d : ℕ) → d < N → at10 (entry N T) n N mark l d ≡ at10 a n N mark l d
+    unfolding at10
+    at10-same l d ld = go (isMark n (mark d)) refl (ltb (mark d + 1) n) refl
+      where
+        go : (x : Bool) → isMark n (mark d) ≡ x → (y : Bool) → ltb (mark d + 1) n ≡ y → when (notRemovable (entry N T) n N mark l d) (refused 10 l (mark d + 1) d) ≡ when (notRemovable a n N mark l d) (refused 10 l (mark d + 1) d)
+        go false q y r = rw q
+        go true q false r = rw (q, r)
+        go true q true r =
+            let i = mark d + 1 in
+            let j = mark d + 2 in
+            let o : There a n N on d = (ld, marked d ld q) in
+            let li : i ≤ n = omega (arith, ltb-true (mark d + 1) n r) in
+            let lj : j ≤ n = omega (arith, ltb-true (mark d + 1) n r) in
+            rw (q, r, ← (stored i d li o), ← (stored j d lj o), ← (stored j (a i d) lj (v .inside i d li o)), ← (stored i (a j d) li (v .inside j d lj o)))
+
+    pub stored-check9 : (l : ℕ) → check9 (entry N T) n N mark l ≡ check9 a n N mark l
+    unfolding check9
+    stored-check9 l = scan-same N (λ d. scan (suc n) (at9 (entry N T) n N mark l d)) (λ d. scan (suc n) (at9 a n N mark l d)) (λ d ld. scan-same (suc n) (at9 (entry N T) n N mark l d) (at9 a n N mark l d) (λ j lj. at9-same l d j ld (omega arith)))
+
+    pub stored-check10 : (l : ℕ) → check10 (entry N T) n N mark l ≡ check10 a n N mark l
+    unfolding check10
+    stored-check10 l = scan-same N (at10 (entry N T) n N mark l) (at10 a n N mark l) (λ d ld. at10-same l d ld)
+
+    -- the removal of a kernel, stored: its survivors are those of the level that are not marked
+    pub stored-removal : Kernel a n (There a n N on) mark → (next : ℕ → Bool) → ((d : ℕ) → d < N → (on d && not (isMark n (mark d))) ≡ next d)
+        → explicit (removal (entry N T) n mark N) n N (λ d. present N T d && not (isMark n (mark d))) ≡ explicit (removal a n mark N) n N next
+    stored-removal k next same =
+        explicit-same (removal (entry N T) n mark N) (removal a n mark N) n N (λ d. present N T d && not (isMark n (mark d))) next
+        (λ d ld. rw (stored-present d ld) (same d ld))
+        (λ i d li ld q.
+        let o : There a n N on d = (ld, and-both (on d) (not (isMark n (mark d))) (same d ld ∙ q) .0) in
+        sym (removal-local a (entry N T) n (There a n N on) mark mark v k (λ t e lt p r. stored t e lt p) (λ e p. refl) N i d li o (stored i d li o)))
