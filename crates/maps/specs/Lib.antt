@@ -21,3 +21,5 @@ pub mod Read
 pub mod Unfold
 pub mod Row
 pub mod Survivors
+pub mod MarkCells
+pub mod Record
