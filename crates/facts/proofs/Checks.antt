@@ -135,14 +135,15 @@ module _ (a : Involutions) (n N h : ℕ) (Λ Δ : ℕ → ℕ) (ln : n ≤ stay)
   marked-on l d ld q = let t = taken-is n h Λ Δ ln l d q in (ld, omega arith)
 
   module _ (base : Valid a n (λ d. d < N)) (allowed : (d : ℕ) → d < N → refusedMarks n h (Λ d) (Δ d) ≡ false)
-      (checked : (l : ℕ) → l < h → checkKernel (level a n N (marks h Λ Δ) l) n N (marks h Λ Δ l) l ≡ accepted) where
+      (top : ℕ) (lt : top ≤ h) (checked : scan top (kernelAt a n N h Λ Δ) ≡ accepted) where
     -- level k is valid and the kernels below it are kernels: each is tested on its own level
-    upto : (k : ℕ) → k ≤ h → Valid (level a n N (marks h Λ Δ) k) n (On N Λ k) × ((l : ℕ) → l < k → Kernel (level a n N (marks h Λ Δ) l) n (On N Λ l) (marks h Λ Δ l))
+    pub upto : (k : ℕ) → k ≤ top → Valid (level a n N (marks h Λ Δ) k) n (On N Λ k) × ((l : ℕ) → l < k → Kernel (level a n N (marks h Λ Δ) l) n (On N Λ l) (marks h Λ Δ l))
+    unfolding kernelAt
     upto zero z = (base-level a n N h Λ Δ base, λ l f. absurd (omega arith))
     upto (suc k) z =
         let r = upto k (omega arith) in
-        let new = kernel-sound (level a n N (marks h Λ Δ) k) n N (marks h Λ Δ k) k (On N Λ k) (r .0) (λ d o. o .0) (checked k z) in
-        (valid-next a n N h Λ Δ ln allowed k z (r .0) new, λ l f. go l f (eqb l k) refl new (r .1))
+        let new = kernel-sound (level a n N (marks h Λ Δ) k) n N (marks h Λ Δ k) k (On N Λ k) (r .0) (λ d o. o .0) (scan-accepted top (kernelAt a n N h Λ Δ) checked k z) in
+        (valid-next a n N h Λ Δ ln allowed k (omega arith) (r .0) new, λ l f. go l f (eqb l k) refl new (r .1))
       where
         go : (l : ℕ) → l < suc k → (x : Bool) → eqb l k ≡ x → Kernel (level a n N (marks h Λ Δ) k) n (On N Λ k) (marks h Λ Δ k) → ((l : ℕ) → l < k → Kernel (level a n N (marks h Λ Δ) l) n (On N Λ l) (marks h Λ Δ l))
             → Kernel (level a n N (marks h Λ Δ) l) n (On N Λ l) (marks h Λ Δ l)
@@ -157,7 +158,7 @@ module _ (a : Involutions) (n N h : ℕ) (Λ Δ : ℕ → ℕ) (ln : n ≤ stay)
       let e₂ = then-accepted (check8 a n N h Λ Δ) (checkKernels a n N h Λ Δ) (e₁ .1) in
       let base = valid-base (map-sound a n N (λ d. true) (e₁ .0)) in
       let allowed : (d : ℕ) → d < N → refusedMarks n h (Λ d) (Δ d) ≡ false = λ d ld. when-accepted (refusedMarks n h (Λ d) (Δ d)) 8 0 0 d (scan-accepted N (at8 a n N h Λ Δ) (e₂ .0) d ld) in
-      record { dimension = ln; base = base; allowed = allowed; kernel = upto base allowed (λ l f. scan-accepted h (kernelAt a n N h Λ Δ) (e₂ .1) l f) h (omega arith) .1 }
+      record { dimension = ln; base = base; allowed = allowed; kernel = upto base allowed h (omega arith) (e₂ .1) h (omega arith) .1 }
 
   -- and an accepted pyramid is accepted by the check
   pub pyramid-check : Pyramid a n N h Λ Δ → checkPyramid a n N h Λ Δ ≡ accepted

@@ -16,3 +16,4 @@ pub mod Facts
 pub mod Star
 pub mod Tables
 pub mod Stored
+pub mod Climbing

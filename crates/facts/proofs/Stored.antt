@@ -12,7 +12,7 @@ use Rattle.maps.specs.Mark.{isMark}
 use Rattle.maps.specs.Kernel.{Kernel}
 use Rattle.maps.specs.Removal.{removal}
 use Rattle.maps.specs.Table.{entry, absent, explicit}
-use Rattle.maps.specs.Check.{leaves, notRemovable, at9, at10, check9, check10}
+use Rattle.maps.specs.Check.{leaves, notRemovable, at9, at10, check9, check10, checkKernel}
 use Rattle.maps.specs.CheckBase.{present}
 use Rattle.facts.proofs.Verdicts.{scan-same, and-both}
 use Rattle.facts.proofs.Tables.{entry-explicit, explicit-same}
@@ -59,48 +59,50 @@ module _ (a : Involutions) (n N : ℕ) (on : ℕ → Bool) (few : N ≤ absent) 
         empty = λ i d li ld q. stored-absent i d li ld (sym (stored-present d ld) ∙ q);
       }
 
-  -- a mark row that marks only darts of the level
-  module _ (mark : ℕ → ℕ) (marked : (d : ℕ) → d < N → isMark n (mark d) ≡ true → on d ≡ true) where
-    pub stored-kernel : Kernel a n (There a n N on) mark → Kernel (entry N T) n (There (entry N T) n N (present N T)) mark
-    stored-kernel k = kernel-same a (entry N T) n (There a n N on) (There (entry N T) n N (present N T)) mark mark v k stored (λ d o. refl) to-there
+  -- marks of darts of the level alone, and a row that holds them
+  module _ (mark row : ℕ → ℕ) (same : (d : ℕ) → d < N → mark d ≡ row d) (marked : (d : ℕ) → d < N → isMark n (mark d) ≡ true → on d ≡ true) where
+    pub stored-kernel : Kernel a n (There a n N on) mark → Kernel (entry N T) n (There (entry N T) n N (present N T)) row
+    stored-kernel k = kernel-same a (entry N T) n (There a n N on) (There (entry N T) n N (present N T)) mark row v k stored (λ d o. same d (o .0)) to-there
 
-    at9-same : (l d j : ℕ) → d < N → j ≤ n → at9 (entry N T) n N mark l d j ≡ at9 a n N mark l d j
+    at9-same : (l d j : ℕ) → d < N → j ≤ n → at9 (entry N T) n N row l d j ≡ at9 a n N mark l d j
     unfolding at9
     at9-same l d j ld lj = go (isMark n (mark d)) refl
       where
-        go : (x : Bool) → isMark n (mark d) ≡ x → when (leaves (entry N T) n N mark l d j) (refused 9 l j d) ≡ when (leaves a n N mark l d j) (refused 9 l j d)
-        go true q = rw (q, stored j d lj (ld, marked d ld q))
-        go false q = rw q
+        go : (x : Bool) → isMark n (mark d) ≡ x → when (leaves (entry N T) n N row l d j) (refused 9 l j d) ≡ when (leaves a n N mark l d j) (refused 9 l j d)
+        go true q =
+            let o : There a n N on d = (ld, marked d ld q) in
+            rw (← (same d ld), q, ← (stored j d lj o), ← (same (a j d) (v .inside j d lj o .0)))
+        go false q = rw (← (same d ld), q)
 
-    at10-same : (l d : ℕ) → d < N → at10 (entry N T) n N mark l d ≡ at10 a n N mark l d
+    at10-same : (l d : ℕ) → d < N → at10 (entry N T) n N row l d ≡ at10 a n N mark l d
     unfolding at10
     at10-same l d ld = go (isMark n (mark d)) refl (ltb (mark d + 1) n) refl
       where
-        go : (x : Bool) → isMark n (mark d) ≡ x → (y : Bool) → ltb (mark d + 1) n ≡ y → when (notRemovable (entry N T) n N mark l d) (refused 10 l (mark d + 1) d) ≡ when (notRemovable a n N mark l d) (refused 10 l (mark d + 1) d)
-        go false q y r = rw q
-        go true q false r = rw (q, r)
+        go : (x : Bool) → isMark n (mark d) ≡ x → (y : Bool) → ltb (mark d + 1) n ≡ y → when (notRemovable (entry N T) n N row l d) (refused 10 l (row d + 1) d) ≡ when (notRemovable a n N mark l d) (refused 10 l (mark d + 1) d)
+        go false q y r = rw (← (same d ld), q)
+        go true q false r = rw (← (same d ld), q, r)
         go true q true r =
             let i = mark d + 1 in
             let j = mark d + 2 in
             let o : There a n N on d = (ld, marked d ld q) in
             let li : i ≤ n = omega (arith, ltb-true (mark d + 1) n r) in
             let lj : j ≤ n = omega (arith, ltb-true (mark d + 1) n r) in
-            rw (q, r, ← (stored i d li o), ← (stored j d lj o), ← (stored j (a i d) lj (v .inside i d li o)), ← (stored i (a j d) li (v .inside j d lj o)))
+            rw (← (same d ld), q, r, ← (stored i d li o), ← (stored j d lj o), ← (stored j (a i d) lj (v .inside i d li o)), ← (stored i (a j d) li (v .inside j d lj o)))
 
-    pub stored-check9 : (l : ℕ) → check9 (entry N T) n N mark l ≡ check9 a n N mark l
-    unfolding check9
-    stored-check9 l = scan-same N (λ d. scan (suc n) (at9 (entry N T) n N mark l d)) (λ d. scan (suc n) (at9 a n N mark l d)) (λ d ld. scan-same (suc n) (at9 (entry N T) n N mark l d) (at9 a n N mark l d) (λ j lj. at9-same l d j ld (omega arith)))
-
-    pub stored-check10 : (l : ℕ) → check10 (entry N T) n N mark l ≡ check10 a n N mark l
-    unfolding check10
-    stored-check10 l = scan-same N (at10 (entry N T) n N mark l) (at10 a n N mark l) (λ d ld. at10-same l d ld)
+    pub stored-check : (l : ℕ) → checkKernel (entry N T) n N row l ≡ checkKernel a n N mark l
+    unfolding check9 check10 checkKernel
+    stored-check l =
+        rw (
+          scan-same N (λ d. scan (suc n) (at9 (entry N T) n N row l d)) (λ d. scan (suc n) (at9 a n N mark l d)) (λ d ld. scan-same (suc n) (at9 (entry N T) n N row l d) (at9 a n N mark l d) (λ j lj. at9-same l d j ld (omega arith))),
+          scan-same N (at10 (entry N T) n N row l) (at10 a n N mark l) (λ d ld. at10-same l d ld),
+        )
 
     -- the removal of a kernel, stored: its survivors are those of the level that are not marked
     pub stored-removal : Kernel a n (There a n N on) mark → (next : ℕ → Bool) → ((d : ℕ) → d < N → (on d && not (isMark n (mark d))) ≡ next d)
-        → explicit (removal (entry N T) n mark N) n N (λ d. present N T d && not (isMark n (mark d))) ≡ explicit (removal a n mark N) n N next
-    stored-removal k next same =
-        explicit-same (removal (entry N T) n mark N) (removal a n mark N) n N (λ d. present N T d && not (isMark n (mark d))) next
-        (λ d ld. rw (stored-present d ld) (same d ld))
+        → explicit (removal (entry N T) n row N) n N (λ d. present N T d && not (isMark n (row d))) ≡ explicit (removal a n mark N) n N next
+    stored-removal k next left =
+        explicit-same (removal (entry N T) n row N) (removal a n mark N) n N (λ d. present N T d && not (isMark n (row d))) next
+        (λ d ld. rw (stored-present d ld, ← (same d ld)) (left d ld))
         (λ i d li ld q.
-        let o : There a n N on d = (ld, and-both (on d) (not (isMark n (mark d))) (same d ld ∙ q) .0) in
-        sym (removal-local a (entry N T) n (There a n N on) mark mark v k (λ t e lt p r. stored t e lt p) (λ e p. refl) N i d li o (stored i d li o)))
+        let o : There a n N on d = (ld, and-both (on d) (not (isMark n (mark d))) (left d ld ∙ q) .0) in
+        sym (removal-local a (entry N T) n (There a n N on) mark row v k (λ t e lt p r. stored t e lt p) (λ e p. same e (p .0)) N i d li o (stored i d li o)))
