@@ -1,12 +1,7 @@
--- Laws of refusals: an enum's refusal is a refusal, and what accepted sizes tell. Assumes nothing.
+-- Laws of refusals: an enum's refusal is a refusal, and what comes after it is not looked at. Assumes nothing.
 use mathlib.Core.Path.{_≡_, refl, sym, _∙_}
-use mathlib.Core.Bool.{_&&_, not}
-use Prim.Native.Nat.{ℕ, _≤_}
-use lib.Dec.{leb, ltb}
-use borrow.Author.Tests.{ltb-false, leb-true, not-false}
-use Rattle.maps.specs.Verdict.{Verdict, accepted, refused, _then_}
-use Rattle.maps.specs.Sizes.{number1, number2, number3, sizes}
-use Rattle.facts.proofs.Verdicts.{then-accepted, when-accepted, and-both}
+use Prim.Native.Nat.{ℕ}
+use Rattle.maps.specs.Verdict.{Verdict, refused, _then_}
 use Rattle.answers.specs.Numbers.{refusalOf}
 use Rattle.answers.specs.declared.Refusal.{Refusal}
 use Rattle.answers.specs.declared.Refusal.the-variants.{Dimension, Darts, Height, Length, Strays, NotTwice, NotCommuting, Marks, NotWhole, NotRemovable, NoLevel, NoDart, NoInvolution, NoPass, TooLong, EndsEarly, OtherTag, WrongLength, BytesAfter, Full}
@@ -46,26 +41,3 @@ refusal-refuses Full = refuses 20 0 0 0
 -- what comes after a refusal is not looked at
 pub refused-then : (r : Refusal) (v w : Verdict) → refusalOf r ≡ v → refusalOf r ≡ v then w
 refused-then r v w e = let x = refusal-refuses r in let f : v ≡ refused (x .number) (x .level) (x .involution) (x .dart) = sym e ∙ x .is in rw f (x .is)
-
--- accepted sizes
-pub record Sized (n N h : ℕ) : Type 0 where
-  pub one-dimension : 1 ≤ n
-  pub dimension : n ≤ 4
-  pub one-dart : 1 ≤ N
-  pub darts : N ≤ 4096
-  pub height : h ≤ 32
-
-pub sizes-sized : (n N h : ℕ) → sizes n N h ≡ accepted → Sized n N h
-unfolding sizes number1 number2 number3
-sizes-sized n N h e =
-    let r = then-accepted (number1 n) (number2 N then number3 h) e in
-    let s = then-accepted (number2 N) (number3 h) (r .1) in
-    let one = and-both (leb 1 n) (leb n 4) (not-false (leb 1 n && leb n 4) (when-accepted (not (leb 1 n && leb n 4)) 1 0 0 0 (r .0))) in
-    let two = and-both (leb 1 N) (leb N 4096) (not-false (leb 1 N && leb N 4096) (when-accepted (not (leb 1 N && leb N 4096)) 2 0 0 0 (s .0))) in
-    record {
-      one-dimension = leb-true 1 n (one .0);
-      dimension = leb-true n 4 (one .1);
-      one-dart = leb-true 1 N (two .0);
-      darts = leb-true N 4096 (two .1);
-      height = ltb-false 32 h (when-accepted (ltb 32 h) 3 0 0 0 (s .1));
-    }

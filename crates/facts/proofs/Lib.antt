@@ -17,3 +17,5 @@ pub mod Star
 pub mod Tables
 pub mod Stored
 pub mod Climbing
+pub mod Sizes
+pub mod AcceptedJobs
