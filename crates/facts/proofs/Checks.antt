@@ -122,13 +122,13 @@ module _ (a : Involutions) (n N : ℕ) (mark : ℕ → ℕ) (l : ℕ) (present :
 
 -- the whole pyramid
 module _ (a : Involutions) (n N h : ℕ) (Λ Δ : ℕ → ℕ) (ln : n ≤ stay) where
-  base-valid : Valid a n (λ d. d < N) → Sound a n N (λ d. true)
+  pub base-valid : Valid a n (λ d. d < N) → Sound a n N (λ d. true)
   base-valid v = record {
     valid = record { inside = λ i d li p. (v .inside i d li (p .0), refl); twice = λ i d li p. v .twice i d li (p .0); commute = λ i j d f lj p. v .commute i j d f lj (p .0) };
     empty = λ i d li ld q. absurd (true≢false q);
   }
 
-  valid-base : Sound a n N (λ d. true) → Valid a n (λ d. d < N)
+  pub valid-base : Sound a n N (λ d. true) → Valid a n (λ d. d < N)
   valid-base s = record { inside = λ i d li p. s .valid .inside i d li (p, refl) .0; twice = λ i d li p. s .valid .twice i d li (p, refl); commute = λ i j d f lj p. s .valid .commute i j d f lj (p, refl) }
 
   marked-on : (l d : ℕ) → d < N → isMark n (marks h Λ Δ l d) ≡ true → On N Λ l d

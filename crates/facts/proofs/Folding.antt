@@ -125,10 +125,10 @@ module _ (n h : ℕ) (Λ Δ : ℕ → ℕ) (ln : n ≤ stay) (d : ℕ) (allowed 
       go false p true q (never l m) = let e = eqb-true (Λ d) k q in absurd (omega arith)
       go false p false q w = let l = ltb-false (Λ d) k p in let ne = eqb-false (Λ d) k q in later (omega arith) (not-mark k ne)
 
-  abbrev Upto : ℕ → Type 0
+  abbrev pub Upto : ℕ → Type 0
   Upto k = (foldΛ n (marks h Λ Δ) k d ≡ cond (ltb (Λ d) k) (Λ d) k) × (foldΔ n (marks h Λ Δ) k d ≡ cond (ltb (Λ d) k) (Δ d) n)
 
-  upto : (k : ℕ) → k ≤ h → Upto k
+  pub upto : (k : ℕ) → k ≤ h → Upto k
   unfolding foldΛ foldΔ
   upto zero z = rw (le-ltb (Λ d) 0 (omega arith)) (refl, refl)
   upto (suc k) z = go (row-at k z) (upto k (omega arith))

@@ -19,3 +19,4 @@ pub mod Stored
 pub mod Climbing
 pub mod Sizes
 pub mod AcceptedJobs
+pub mod AddedJobs
