@@ -2,6 +2,7 @@
 use Rattle.maps.specs.Verdict.{Verdict, accepted, refused}
 use Rattle.answers.specs.declared.Refusal.{Refusal}
 use Rattle.answers.specs.declared.Refusal.the-variants.{Dimension, Darts, Height, Length, Strays, NotTwice, NotCommuting, Marks, NotWhole, NotRemovable, NoLevel, NoDart, NoInvolution, NoPass, TooLong, EndsEarly, OtherTag, WrongLength, BytesAfter, Full}
+use Rattle.answers.specs.declared.Numbers.{Numbers}
 use Rattle.answers.specs.declared.Check.{Check}
 use Rattle.answers.specs.declared.Check.the-variants.{Accepted, Refused}
 
@@ -31,3 +32,7 @@ refusalOf Full = refused 20 0 0 0
 abbrev pub verdictOf : Check → Verdict
 verdictOf Accepted = accepted
 verdictOf (Refused r) = refusalOf r
+
+-- the refusal that four numbers say
+abbrev pub said : Numbers → Verdict
+said r = refused (r .number) (r .level) (r .involution) (r .dart)

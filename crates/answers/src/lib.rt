@@ -2,7 +2,7 @@
 ghost use mathlib.Core.Path.{_≡_};
 ghost use Rattle.maps.specs.Sizes.{sizes as sizesOf};
 ghost use Rattle.maps.specs.Folded.{refusedMarks};
-ghost use Rattle.answers.specs.Numbers.{verdictOf};
+ghost use Rattle.answers.specs.Numbers.{refusalOf, verdictOf, said};
 
 // A level: Λ, h, or a level asked.
 pub struct Level(pub u8);
@@ -73,4 +73,64 @@ pub fn marks_refused(n: Dim, h: Level, lambda: Level, delta: Dim) -> bool
         return n.0 <= delta.0;
     }
     delta.0 != n.0
+}
+
+// A refusal as the document prints it; all four are 0 where accepted.
+pub struct Numbers {
+    pub number: u16,
+    pub level: u16,
+    pub involution: u16,
+    pub dart: u16,
+}
+
+fn placed(number: u16, level: Level, involution: Dim, dart: u16) -> Numbers
+    ensures { λ r. ⌜ r ≡ record { number = number; level = level .0; involution = involution .0; dart = dart } ⌝ }
+{
+    let l = level.0;
+    let i = involution.0;
+    Numbers {
+        number,
+        level: l as u16,
+        involution: i as u16,
+        dart,
+    }
+}
+
+fn at_offset(number: u16, offset: u16) -> Numbers
+    ensures { λ r. ⌜ r ≡ record { number = number; level = 0; involution = 0; dart = offset } ⌝ }
+{
+    Numbers {
+        number,
+        level: 0,
+        involution: 0,
+        dart: offset,
+    }
+}
+
+// The document's number and values of a refusal.
+pub fn numbers_of(refusal: Refusal) -> Numbers
+    ensures { λ r. ⌜ said r ≡ refusalOf refusal ⌝ }
+{
+    match refusal {
+        Refusal::Dimension => at_offset(1, 0),
+        Refusal::Darts => at_offset(2, 0),
+        Refusal::Height => at_offset(3, 0),
+        Refusal::Length => at_offset(4, 0),
+        Refusal::Strays(l, i, d) => placed(5, l, i, d),
+        Refusal::NotTwice(i, d) => placed(6, Level(0), i, d),
+        Refusal::NotCommuting(i, d) => placed(7, Level(0), i, d),
+        Refusal::Marks(l, i, d) => placed(8, l, i, d),
+        Refusal::NotWhole(l, i, d) => placed(9, l, i, d),
+        Refusal::NotRemovable(l, i, d) => placed(10, l, i, d),
+        Refusal::NoLevel(l, i, d) => placed(11, l, i, d),
+        Refusal::NoDart(l, i, d) => placed(12, l, i, d),
+        Refusal::NoInvolution(l, i, d) => placed(13, l, i, d),
+        Refusal::NoPass(l, i, d) => placed(14, l, i, d),
+        Refusal::TooLong(l, i, d) => placed(15, l, i, d),
+        Refusal::EndsEarly(offset) => at_offset(16, offset),
+        Refusal::OtherTag(offset) => at_offset(17, offset),
+        Refusal::WrongLength(offset) => at_offset(18, offset),
+        Refusal::BytesAfter(offset) => at_offset(19, offset),
+        Refusal::Full => at_offset(20, 0),
+    }
 }
