@@ -1,0 +1,127 @@
+-- Laws of binary digits: the number that has digit b set where a test holds, its ones, and the darts of 64 words. Assumes nothing.
+use mathlib.Core.Path.{_≡_, refl, sym, ap, _∙_}
+use mathlib.Core.Bool.{Bool, true, false, cond, _&&_}
+use mathlib.Core.List.{List, []}
+use Prim.Native.Nat.{ℕ, zero, suc, _+_, _-_, _*_, _%_, _^_, _≤_, _<_}
+use native.Mathlib.Nat.{pow-suc, add-zero, add-suc, suc-mul}
+use native.Mathlib.Numerals.{add-one}
+use native.Mathlib.Omega.{arith}
+use lib.Count.{ones, onesIn, ones-cat}
+use lib.Dec.{leb, ltb}
+use lib.ListN.{length}
+use lib.Pow.{shl-exact}
+use lib.Bits.{bitOr, or-shifted-r}
+use borrow.Author.Tests.{le-ltb, lt-ltb, ltb-true, ltb-false, leb-true}
+use Rattle.maps.specs.Count.{one, count, sum}
+use Rattle.maps.specs.Folded.{survives, survivors}
+use Rattle.maps.specs.Table.{each}
+use Rattle.maps.specs.Survivors.{bit, word}
+use Rattle.facts.proofs.Counting.{count-add, count-same, sum-same}
+use Rattle.rows.specs.Answers.{inWord}
+
+-- digit b is set where the test holds of b
+abbrev pub digit : (ℕ → Bool) → ℕ → ℕ
+digit p b = one (p b) * 2 ^ b
+
+ones-one : (t : Bool) → ones (one t) ≡ one t
+unfolding ones onesIn
+ones-one true = refl
+ones-one false = refl
+
+module _ (p : ℕ → Bool) where
+  pub digits-lt : (m : ℕ) → sum (digit p) m < 2 ^ m
+  unfolding sum
+  digits-lt zero = omega arith
+  digits-lt (suc m) = go (p m) (digits-lt m)
+    where
+      go : (t : Bool) → sum (digit p) m < 2 ^ m → sum (digit p) m + one t * 2 ^ m < 2 ^ suc m
+      go true h = omega (arith, pow-suc 2 m)
+      go false h = omega (arith, pow-suc 2 m)
+
+  -- one digit more, set by `|` and `<<`, or left
+  pub digit-set : (b x : ℕ) → b < 64 → x ≡ sum (digit p) b → p b ≡ true → bitOr x ((1 * 2 ^ b) % 2 ^ 64) ≡ sum (digit p) (b + 1)
+  unfolding sum
+  digit-set b x h e t =
+      let l : x < 2 ^ b = omega (arith, digits-lt b) in
+      ap (bitOr x) (shl-exact {a = 1} 1 b 64 (omega arith) (omega arith)) ∙ or-shifted-r 1 b x l
+      ∙ rw (add-one, t) (omega arith)
+
+  pub digit-left : (b x : ℕ) → x ≡ sum (digit p) b → p b ≡ false → x ≡ sum (digit p) (b + 1)
+  unfolding sum
+  digit-left b x e t = rw (add-one, t) (omega arith)
+
+  -- the ones of the number are as many as the places where the test holds
+  ones-digits : (m : ℕ) → ones (sum (digit p) m) ≡ count p m
+  unfolding sum count ones onesIn
+  ones-digits zero = refl
+  ones-digits (suc m) = go (p m) (ones-digits m)
+    where
+      go : (t : Bool) → ones (sum (digit p) m) ≡ count p m → ones (sum (digit p) m + one t * 2 ^ m) ≡ count p m + one t
+      go t h =
+          let e : sum (digit p) m + one t * 2 ^ m ≡ one t * 2 ^ m + sum (digit p) m = omega arith in
+          ap ones e ∙ ones-cat m (one t) (sum (digit p) m) (digits-lt m) ∙ omega (arith, ones-one t, h)
+
+  -- no digit is set from place m on
+  pub digits-past : (m more : ℕ) → ((b : ℕ) → m ≤ b → b < m + more → p b ≡ false) → sum (digit p) (m + more) ≡ sum (digit p) m
+  unfolding sum
+  digits-past m zero h = ap (sum (digit p)) (add-zero m)
+  digits-past m (suc more) h = rw (add-suc, h (m + more) (omega arith) (omega arith)) (omega (arith, digits-past m more (λ b f g. h b f (omega arith))))
+
+  count-none : (m : ℕ) → ((d : ℕ) → p d ≡ false) → count p m ≡ 0
+  unfolding count
+  count-none zero h = refl
+  count-none (suc m) h = rw (h m) (omega (arith, count-none m h))
+
+  count-zero : count p 0 ≡ 0
+  unfolding count
+  count-zero = refl
+
+  -- the places of words of 64, word after word
+  count-words : (m : ℕ) → sum (λ w. count (λ b. p (w * 64 + b)) 64) m ≡ count p (m * 64)
+  unfolding sum
+  count-words zero = sym count-zero
+  count-words (suc m) = omega (arith, count-words m, count-add p (m * 64) 64, ap (count p) (suc-mul m 64))
+
+-- the places below N where q holds, among more of them
+count-below : (q : ℕ → Bool) (N more : ℕ) → count (λ d. ltb d N && q d) (N + more) ≡ count q N
+count-below q N more =
+    let p : ℕ → Bool = λ d. ltb d N && q d in
+    let e = count-add p N more in
+    let f = count-same p q N (λ d l. rw (lt-ltb d N l)) in
+    let g = count-none (λ d. p (N + d)) more (λ d. rw (le-ltb (N + d) N (omega arith))) in
+    omega arith
+
+-- the darts of word w are those below N, and no other place of it is below N
+pub in-word : (N w b : ℕ) → b < inWord N w → (b < 64) × (w * 64 + b < N)
+in-word N w b = go (leb N (w * 64)) refl (ltb (N - w * 64) 64) refl
+  where
+    go : (s : Bool) → leb N (w * 64) ≡ s → (t : Bool) → ltb (N - w * 64) 64 ≡ t → b < cond s 0 (cond t (N - w * 64) 64) → (b < 64) × (w * 64 + b < N)
+    go true e t f l = absurd (omega arith)
+    go false e true f l = let g = ltb-true (N - w * 64) 64 f in (omega arith, omega arith)
+    go false e false f l = let g = ltb-false (N - w * 64) 64 f in (omega arith, omega arith)
+
+pub past-word : (N w : ℕ) → (inWord N w ≤ 64) × ((b : ℕ) → inWord N w ≤ b → b < 64 → N ≤ w * 64 + b)
+past-word N w = go (leb N (w * 64)) refl (ltb (N - w * 64) 64) refl
+  where
+    go : (s : Bool) → leb N (w * 64) ≡ s → (t : Bool) → ltb (N - w * 64) 64 ≡ t → (cond s 0 (cond t (N - w * 64) 64) ≤ 64) × ((b : ℕ) → cond s 0 (cond t (N - w * 64) 64) ≤ b → b < 64 → N ≤ w * 64 + b)
+    go true e t f = let g = leb-true N (w * 64) e in (omega arith, λ b l k. omega arith)
+    go false e true f = let g = ltb-true (N - w * 64) 64 f in (omega arith, λ b l k. omega arith)
+    go false e false f = (omega arith, λ b l k. absurd (omega arith))
+
+-- the ones of the words of a level
+abbrev pub wordOnes : List ℕ → ℕ → ℕ → ℕ
+wordOnes lambda l w = ones (word (length lambda) 0 lambda l [] w)
+
+pub ones-more : (lambda : List ℕ) (l w c x : ℕ) → c ≡ sum (wordOnes lambda l) w → x ≡ word (length lambda) 0 lambda l [] w → c + ones x ≡ sum (wordOnes lambda l) (w + 1)
+unfolding sum
+ones-more lambda l w c x e f = rw (add-one, f) (omega arith)
+
+-- the number of ones in the 64 words is the number of survivors
+pub words-count : (lambda : List ℕ) (l : ℕ) → length lambda ≤ 4096 → sum (wordOnes lambda l) 64 ≡ survivors (length lambda) (each lambda) l
+unfolding word
+words-count lambda l h =
+    let N = length lambda in
+    let q = survives (each lambda) l in
+    let e : 64 * 64 ≡ N + (4096 - N) = omega arith in
+    sum-same (wordOnes lambda l) (λ w. count (bit N 0 lambda l [] w) 64) 64 (λ w k. ones-digits (bit N 0 lambda l [] w) 64)
+    ∙ count-words (λ d. ltb d N && q d) 64 ∙ ap (count (λ d. ltb d N && q d)) e ∙ count-below q N (4096 - N)

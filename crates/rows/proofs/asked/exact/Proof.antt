@@ -1,0 +1,13 @@
+-- `rows::asked::exact` meets its contract. Assumes nothing.
+use borrow.Author.Tests.{eq-eqb, ne-eqb}
+use Rattle.rows.proofs.asked.exact.Statement.{statement}
+use Rattle.rows.proofs.asked.exact.Tie as tie
+
+returns : tie.Need-returns
+returns c = simp (ne-eqb _ _ (c .if1 .taken))
+
+returns-2 : tie.Need-returns-2
+returns-2 c = simp (eq-eqb _ _ (c .if1 .left))
+
+pub exact-spec : {M : Type 1} → statement M
+exact-spec = tie.close (tie.spec returns returns-2)

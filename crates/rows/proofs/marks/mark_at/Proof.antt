@@ -1,0 +1,17 @@
+-- `rows::marks::mark_at` meets its contract. Assumes nothing.
+use native.Mathlib.Omega.{arith}
+use borrow.Author.Tests.{lt-ltb, le-ltb, eq-eqb, ne-eqb}
+use Rattle.rows.proofs.marks.mark_at.Statement.{statement}
+use Rattle.rows.proofs.marks.mark_at.Tie as tie
+
+returns : tie.Need-returns
+returns c = simp (le-ltb _ _ (c .if1 .taken))
+
+returns-2 : tie.Need-returns-2
+returns-2 c = let a = c .before .before .before .before .before .before .args in simp (lt-ltb (a .level .0) (a .h .0) (omega arith), ne-eqb (a .lambda .0) (a .level .0) (c .if2 .taken))
+
+returns-3 : tie.Need-returns-3
+returns-3 c = let a = c .before .before .before .before .before .before .args in simp (lt-ltb (a .level .0) (a .h .0) (omega arith), eq-eqb (a .lambda .0) (a .level .0) (c .if2 .left))
+
+pub mark-at-spec : {M : Type 1} → statement M
+mark-at-spec = tie.close (tie.spec returns returns-2 returns-3)

@@ -1,0 +1,62 @@
+// A row handed back: a part of the base rows or of an unfolded level, and no copy. Assumes nothing.
+ghost use mathlib.Core.Path.{_≡_};
+ghost use Rattle.maps.specs.Row.{rowLent, rowPart};
+ghost use Rattle.answers.specs.Numbers.{verdictOf};
+use super::asked::asked;
+use super::asked::exact;
+use answers::Check;
+use answers::Dim;
+use answers::Level;
+use answers::Refusal;
+
+// Is the row refused? Both slices are measured, at level 0 too.
+pub fn row_refusal(
+    n: Dim,
+    darts: u16,
+    h: Level,
+    base: &[u16],
+    unfolded: &[u16],
+    level: Level,
+    involution: Dim,
+) -> Check
+    ensures { λ r. ⌜ verdictOf r ≡ rowLent (n .0) darts (h .0) (now (base .entry)) (now (unfolded .entry)) (level .0) (involution .0) ⌝ }
+{
+    let top = n.0;
+    let due = (top as usize + 1) * darts as usize;
+    let fits = exact(base.len(), due, unfolded.len(), due);
+    match asked(n, darts, h, fits, level, involution) {
+        Check::Refused(r) => return Check::Refused(r),
+        Check::Accepted => {},
+    }
+    if n.0 < involution.0 {
+        return Check::Refused(Refusal::NoInvolution(level, involution, 0));
+    }
+    Check::Accepted
+}
+
+// The row: for level 0 part of the base rows, for any other level part of the unfolded table; refused, an empty part of the base rows.
+pub fn row<'a>(
+    n: Dim,
+    darts: u16,
+    h: Level,
+    base: &'a [u16],
+    unfolded: &'a [u16],
+    level: Level,
+    involution: Dim,
+) -> &'a [u16]
+    ensures { λ r. ⌜ now r ≡ rowPart (n .0) darts (h .0) (now (base .entry)) (now (unfolded .entry)) (level .0) (involution .0) ⌝ }
+{
+    match row_refusal(n, darts, h, base, unfolded, level, involution) {
+        Check::Refused(_) => &base[0..0],
+        Check::Accepted => {
+            let i = involution.0;
+            let length = darts as usize;
+            let start = i as usize * length;
+            if level.0 == 0 {
+                &base[start..start + length]
+            } else {
+                &unfolded[start..start + length]
+            }
+        },
+    }
+}

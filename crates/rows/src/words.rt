@@ -1,0 +1,97 @@
+// Survivor words of a level, and the number of ones in them. Assumes nothing.
+ghost use mathlib.Core.Path.{_≡_};
+ghost use mathlib.Core.List.{[]};
+ghost use Prim.Native.Nat.{_<_, _≤_};
+ghost use lib.ListN.{length};
+ghost use Rattle.maps.specs.Verdict.{scan};
+ghost use Rattle.maps.specs.Folded.{survivors as survivorsOf};
+ghost use Rattle.maps.specs.Table.{each, listed};
+ghost use Rattle.maps.specs.Survivors.{atLambda8, word as wordOf, survivorsLent, survivorCount, survivorWords};
+ghost use Rattle.answers.specs.Numbers.{verdictOf};
+ghost use Rattle.rows.specs.Answers.{inWord, verdictOfSurvivors, countOfSurvivors};
+use super::asked::asked;
+use super::asked::exact;
+use super::counted::Survivors;
+use answers::Check;
+use answers::Dim;
+use answers::Level;
+use answers::Refusal;
+
+// Number 8 of Λ alone, over all darts, with the level asked.
+fn lambda_tested(darts: u16, h: Level, lambda: &[u8], level: Level) -> Check
+    requires { ⌜ length (now lambda) ≡ darts ⌝ }
+    ensures { λ r. ⌜ verdictOf r ≡ scan darts (atLambda8 darts (h .0) (now (lambda .entry)) (level .0) []) ⌝ }
+{
+    for d in 0..darts {
+        if h.0 < lambda[d as usize] {
+            return Check::Refused(Refusal::Marks(level, Dim(0), d));
+        }
+    }
+    Check::Accepted
+}
+
+// How many darts word w has: 64, fewer in the last, none past it.
+fn in_word(darts: usize, w: usize) -> usize
+    requires { ⌜ w < 64 ⌝ }
+    ensures { λ r. ⌜ r ≡ inWord darts w ⌝ }
+{
+    let first = w * 64;
+    if darts <= first {
+        return 0;
+    }
+    if darts - first < 64 {
+        return darts - first;
+    }
+    64
+}
+
+// Word w: dart 64 w + b at bit b.
+fn word(lambda: &[u8], level: Level, w: usize) -> u64
+    requires { ⌜ w < 64 ⌝ }
+    ensures { λ r. ⌜ r ≡ wordOf (length (now (lambda .entry))) 0 (now (lambda .entry)) (level .0) [] w ⌝ }
+{
+    let first = w * 64;
+    let many = in_word(lambda.len(), w);
+    let mut x: u64 = 0;
+    for b in 0..many {
+        if level.0 <= lambda[first + b] {
+            x = x | (1u64 << b);
+        }
+    }
+    x
+}
+
+// All 64 words, and the number of ones in them.
+fn fill_words(lambda: &[u8], level: Level, words: &mut [u64]) -> u32
+    requires { ⌜ (length (now lambda) ≤ 4096) × (length (now words) ≡ 64) ⌝ }
+    ensures { λ r. ⌜ r ≡ survivorsOf (length (now (lambda .entry))) (each (now (lambda .entry))) (level .0) ⌝ }
+    ensures { λ _. ⌜ now (words .exit) ≡ listed (wordOf (length (now (lambda .entry))) 0 (now (lambda .entry)) (level .0) []) 64 ⌝ }
+{
+    let mut count: u32 = 0;
+    for w in 0..64usize {
+        let x = word(lambda, level, w);
+        words[w] = x;
+        count = count + u64::count_ones(x);
+    }
+    count
+}
+
+// Survivor words of a level, with the survivor count: the number of ones in them. After a refusal nothing lent has changed.
+pub fn survivors(darts: u16, h: Level, lambda: &[u8], level: Level, words: &mut [u64]) -> Survivors
+    ensures { λ r. ⌜ verdictOfSurvivors r ≡ survivorsLent darts (h .0) (now (lambda .entry)) (level .0) (now (words .entry)) ⌝ }
+    ensures { λ r. ⌜ countOfSurvivors r ≡ survivorCount darts (h .0) (now (lambda .entry)) (level .0) (now (words .entry)) ⌝ }
+    ensures { λ _. ⌜ now (words .exit) ≡ survivorWords darts (h .0) (now (lambda .entry)) (level .0) (now (words .entry)) ⌝ }
+{
+    let due = darts as usize;
+    let fits = exact(lambda.len(), due, words.len(), 64);
+    match asked(Dim(1), darts, h, fits, level, Dim(0)) {
+        Check::Refused(r) => return Survivors::Refused(r),
+        Check::Accepted => {},
+    }
+    match lambda_tested(darts, h, lambda, level) {
+        Check::Refused(r) => return Survivors::Refused(r),
+        Check::Accepted => {},
+    }
+    let count = fill_words(lambda, level, words);
+    Survivors::Counted(count)
+}
