@@ -1,0 +1,5 @@
+mod Questions
+mod Steps
+mod Entries
+mod Filling
+mod Unfolding

@@ -1,0 +1,103 @@
+#!/usr/bin/env python3
+"""Makes the sample records: star.record (P8, P9) and voxels.record, a block of 3 x 3 x 9 voxels with a cavity of one
+voxel (dimension 3, 80 cubes of 48 darts), with 12 removals: on each level a seeded choice of the removable cells of one
+dimension, faces, edges and vertices in turn.   python3 make.py"""
+import itertools, random
+
+
+def record(n, h, rows, marks):
+    darts = len(rows[0])
+    two = lambda x: bytes((x % 256, x // 256))
+    field = lambda tag, body: bytes((tag,)) + two(len(body)) + body
+    out = field(0x01, bytes((n, h)) + two(darts))
+    for i, row in enumerate(rows):
+        out += field(0x10 + i, b"".join(two(x) for x in row))
+    return out + field(0x30, bytes(marks[0])) + field(0x31, bytes(marks[1]))
+
+
+def cube_flags():
+    """The 48 flags of a cube: vertex, edge and face, each in the next, as corners, axes and sides."""
+    flags = []
+    for corner in itertools.product((0, 1), repeat=3):
+        for edge in range(3):
+            for side in range(3):
+                if side != edge:
+                    flags.append((corner, edge, side))
+    return flags
+
+
+def voxels(size, holes):
+    flags = cube_flags()
+    cells = [v for v in itertools.product(*map(range, size)) if v not in holes]
+    number = {(v, f): k for k, (v, f) in enumerate(itertools.product(cells, flags))}
+    rows = [[0] * len(number) for _ in range(4)]
+    for (v, (corner, edge, side)), d in number.items():
+        along = tuple(1 - x if a == edge else x for a, x in enumerate(corner))
+        rows[0][d] = number[v, (along, edge, side)]
+        rows[1][d] = number[v, (corner, 3 - edge - side, side)]
+        rows[2][d] = number[v, (corner, edge, 3 - edge - side)]
+        step = 1 if corner[side] else -1
+        w = tuple(x + step if a == side else x for a, x in enumerate(v))
+        across = tuple(1 - x if a == side else x for a, x in enumerate(corner))
+        rows[3][d] = number.get((w, (across, edge, side)), d)
+    return rows
+
+
+def cells_of(a, n, here, delta):
+    seen, cells = set(), []
+    for d in here:
+        if d not in seen:
+            cell, todo = {d}, [d]
+            while todo:
+                x = todo.pop()
+                for j in range(n + 1):
+                    if j != delta and a[j][x] not in cell:
+                        cell.add(a[j][x])
+                        todo.append(a[j][x])
+            seen |= cell
+            cells.append(cell)
+    return cells
+
+
+def removable(a, n, delta, cell):
+    i, j = delta + 1, delta + 2
+    return j > n or all(a[j][a[i][d]] == a[i][a[j][d]] for d in cell)
+
+
+def remove(a, n, here, marked):
+    left = [d for d in here if d not in marked]
+    new = [row[:] for row in a]
+    for i in range(n + 1):
+        for d in left:
+            e = a[i][d]
+            while marked.get(e) == i:
+                e = a[i][a[i + 1][e]]
+            new[i][d] = e
+    return new, left
+
+
+def pyramid(rows, n, height, seed):
+    rng = random.Random(seed)
+    a, here = rows, list(range(len(rows[0])))
+    lam, dim = [height] * len(here), [n] * len(here)
+    for l in range(height):
+        delta = (n - 1) - l % n
+        good = [c for c in cells_of(a, n, here, delta) if removable(a, n, delta, c)]
+        some = rng.sample(good, (len(good) + 3) // 4)
+        marked = {d: delta for c in some for d in c}
+        for d in marked:
+            lam[d], dim[d] = l, delta
+        a, here = remove(a, n, here, marked)
+    return lam, dim
+
+
+if __name__ == "__main__":
+    star = [
+        [6, 7, 8, 9, 10, 11, 0, 1, 2, 3, 4, 5],
+        [5, 2, 1, 4, 3, 0, 7, 6, 9, 8, 11, 10],
+        [1, 0, 3, 2, 5, 4, 7, 6, 9, 8, 11, 10],
+    ]
+    marks = [1, 1, 0, 0, 1, 1, 2, 2, 0, 0, 2, 2], [0, 0, 1, 1, 0, 0, 2, 2, 1, 1, 2, 2]
+    open("star.record", "wb").write(record(2, 2, star, marks))
+    block = voxels((3, 3, 9), {(1, 1, 4)})
+    open("voxels.record", "wb").write(record(3, 12, block, pyramid(block, 3, 12, 1)))
