@@ -1,0 +1,4 @@
+mod Base
+mod Ends
+mod Turns
+mod Questions

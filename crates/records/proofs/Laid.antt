@@ -1,0 +1,87 @@
+-- Laws of values written into a slice: none, one more, a part after a part, and a part at the front. Assumes nothing.
+use mathlib.Core.Path.{_≡_, refl, sym, ap, _∙_}
+use mathlib.Core.Bool.{Bool, true, false, cond, _&&_}
+use mathlib.Core.List.{List}
+use Prim.Native.Nat.{ℕ, _+_, _-_, _≤_, _<_}
+use native.Mathlib.Omega.{arith}
+use lib.ListN.{length, getD, set, length-set}
+use lib.Seq.{getD-set-same, getD-set-other}
+use lib.Dec.{eqb, leb, ltb}
+use borrow.Author.Tests.{leb-true, leb-false, ltb-true, ltb-false, le-leb, lt-leb, lt-ltb, le-ltb, eqb-true, eqb-false}
+use Rattle.maps.specs.Table.{listed}
+use Rattle.facts.proofs.Tables.{length-listed, getD-listed, listed-of, listed-same}
+use Rattle.records.specs.Parts.{laid}
+
+module _ (value : ℕ → ℕ) (at : ℕ) (m : ℕ) (slice : List ℕ) where
+  -- what stands at a place afterwards
+  abbrev pub laidAt : ℕ → ℕ
+  laidAt x = cond (leb at x && ltb x (at + m)) (value (x - at)) (getD slice x 0)
+
+  -- a place is written, or it is untouched
+  by-place : (x : ℕ) (P : ℕ → Type 0) → (at ≤ x → x < at + m → P (value (x - at))) → ((at ≤ x → x < at + m → ⊥) → P (getD slice x 0)) → P (laidAt x)
+  by-place x P f g = go (leb at x) (ltb x (at + m)) refl refl
+    where
+      go : (s t : Bool) → leb at x ≡ s → ltb x (at + m) ≡ t → P (cond (s && t) (value (x - at)) (getD slice x 0))
+      go true true p q = f (leb-true at x p) (ltb-true x (at + m) q)
+      go true false p q = let l = ltb-false x (at + m) q in g (λ k j. omega arith)
+      go false t p q = let l = leb-false at x p in g (λ k j. omega arith)
+
+  pub length-laid : length (laid value at m slice) ≡ length slice
+  unfolding laid
+  length-laid = length-listed laidAt (length slice)
+
+  getD-laid : (x : ℕ) → x < length slice → getD (laid value at m slice) x 0 ≡ laidAt x
+  unfolding laid
+  getD-laid x l = getD-listed laidAt (length slice) x 0 l
+
+  -- a list with these values at each place
+  laid-of : (list : List ℕ) → length list ≡ length slice → ((x : ℕ) → x < length slice → (at ≤ x → x < at + m → getD list x 0 ≡ value (x - at)) × ((at ≤ x → x < at + m → ⊥) → getD list x 0 ≡ getD slice x 0)) → list ≡ laid value at m slice
+  unfolding laid
+  laid-of list e h = listed-of laidAt (length slice) list e (λ x l. by-place x (λ y. getD list x 0 ≡ y) (h x l .0) (h x l .1))
+
+pub laid-none : (value : ℕ → ℕ) (at : ℕ) (slice : List ℕ) → slice ≡ laid value at 0 slice
+laid-none value at slice = laid-of value at 0 slice slice refl (λ x l. (λ p q. absurd (omega arith), λ n. refl))
+
+-- one value more
+pub laid-more : (value : ℕ → ℕ) (at d v : ℕ) (slice : List ℕ) → at + d < length slice → v ≡ value d → set (laid value at d slice) (at + d) v ≡ laid value at (d + 1) slice
+laid-more value at d v slice l e =
+    laid-of value at (d + 1) slice (set (laid value at d slice) (at + d) v) (simp length-set (length-laid value at d slice)) (λ x lx. go x lx (eqb x (at + d)) refl)
+  where
+    go : (x : ℕ) → x < length slice → (b : Bool) → eqb x (at + d) ≡ b
+        → (at ≤ x → x < at + (d + 1) → getD (set (laid value at d slice) (at + d) v) x 0 ≡ value (x - at)) × ((at ≤ x → x < at + (d + 1) → ⊥) → getD (set (laid value at d slice) (at + d) v) x 0 ≡ getD slice x 0)
+    go x lx true q =
+        let k : x ≡ at + d = eqb-true x (at + d) q in
+        let z : d ≡ at + d - at = omega arith in
+        (λ p r. rw k (getD-set-same (laid value at d slice) (at + d) v 0 (omega (arith, length-laid value at d slice)) ∙ e ∙ ap value z), λ n. absurd (n (omega arith) (omega arith)))
+    go x lx false q =
+        let ne : x ≡ at + d → ⊥ = eqb-false x (at + d) q in
+        let s : getD (set (laid value at d slice) (at + d) v) x 0 ≡ laidAt value at d slice x = getD-set-other (laid value at d slice) (at + d) x v 0 ne ∙ getD-laid value at d slice x lx in (
+          λ p r. s ∙ by-place value at d slice x (λ y. y ≡ value (x - at)) (λ f g. refl) (λ n. absurd (n p (omega arith))),
+          λ n. s ∙ by-place value at d slice x (λ y. y ≡ getD slice x 0) (λ f g. absurd (n f (omega arith))) (λ k. refl),
+        )
+
+-- m values after the first `at`
+pub laid-after : (part value : ℕ → ℕ) (at m : ℕ) (slice : List ℕ) → ((d : ℕ) → d < m → part d ≡ value (at + d)) → laid part at m (laid value 0 at slice) ≡ laid value 0 (at + m) slice
+laid-after part value at m slice same =
+    laid-of value 0 (at + m) slice (laid part at m (laid value 0 at slice)) (length-laid part at m (laid value 0 at slice) ∙ length-laid value 0 at slice) (λ x l.
+    let s : getD (laid part at m (laid value 0 at slice)) x 0 ≡ laidAt part at m (laid value 0 at slice) x = getD-laid part at m (laid value 0 at slice) x (omega (arith, length-laid value 0 at slice)) in
+    let t : getD (laid value 0 at slice) x 0 ≡ laidAt value 0 at slice x = getD-laid value 0 at slice x l in (
+      λ p q. s ∙ by-place part at m (laid value 0 at slice) x (λ y. y ≡ value (x - 0))
+          (λ f g. let z : at + (x - at) ≡ x - 0 = omega arith in same (x - at) (omega arith) ∙ ap value z)
+          (λ n. t ∙ by-place value 0 at slice x (λ y. y ≡ value (x - 0)) (λ f g. refl) (λ k. absurd (go x p q n k))),
+      λ n. s ∙ by-place part at m (laid value 0 at slice) x (λ y. y ≡ getD slice x 0)
+          (λ f g. absurd (n (omega arith) (omega arith)))
+          (λ k. t ∙ by-place value 0 at slice x (λ y. y ≡ getD slice x 0) (λ f g. absurd (n f (omega arith))) (λ j. refl)),
+    ))
+  where
+    go : (x : ℕ) → 0 ≤ x → x < 0 + (at + m) → (at ≤ x → x < at + m → ⊥) → (0 ≤ x → x < 0 + at → ⊥) → ⊥
+    go x p q n k = side (ltb x at) refl
+      where
+        side : (b : Bool) → ltb x at ≡ b → ⊥
+        side true e = let l = ltb-true x at e in k p (omega arith)
+        side false e = let l = ltb-false x at e in n l (omega arith)
+
+-- at the front: what a longer slice has after that is untouched
+pub laid-front : (value : ℕ → ℕ) (m : ℕ) (slice : List ℕ) → laid value 0 m slice ≡ listed (λ x. cond (ltb x m) (value x) (getD slice x 0)) (length slice)
+unfolding laid
+laid-front value m slice = listed-same (laidAt value 0 m slice) (λ x. cond (ltb x m) (value x) (getD slice x 0)) (length slice) (λ x l. let z : 0 + m ≡ m = omega arith in let y : x - 0 ≡ x = omega arith in rw (le-leb 0 x (omega arith), z, y))

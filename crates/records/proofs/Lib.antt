@@ -1,0 +1,5 @@
+mod Settled
+mod Laid
+mod Tagged
+mod Placed
+mod Whole

@@ -1,0 +1,28 @@
+-- What an answer says, in the definitions' values. Assumes nothing: these are definitions.
+use mathlib.Core.List.{List}
+use Prim.Native.Nat.{ℕ}
+use Rattle.maps.specs.Verdict.{Verdict, accepted, ifAccepted}
+use Rattle.maps.specs.Record.{recordDimension, recordHeight, recordDarts, takeLent}
+use Rattle.answers.specs.Numbers.{refusalOf}
+use Rattle.records.specs.declared.Taken.{Taken}
+use Rattle.records.specs.declared.Taken.the-variants.{Record, Refused}
+
+-- a verdict and n, h and N
+pub record Outcome : Type 0 where
+  pub verdict : Verdict
+  pub dimension : ℕ
+  pub height : ℕ
+  pub darts : ℕ
+
+-- accepted, the three values; in a refusal they are 0
+abbrev pub saying : Verdict → ℕ → ℕ → ℕ → Outcome
+saying v n h N = record { verdict = v; dimension = ifAccepted v n 0; height = ifAccepted v h 0; darts = ifAccepted v N 0 }
+
+-- number and values for each answer
+abbrev pub takenOf : Taken → Outcome
+takenOf (Record n h darts) = saying accepted (n .0) (h .0) darts
+takenOf (Refused r) = saying (refusalOf r) 0 0 0
+
+-- what taking a record answers
+abbrev pub taken : List ℕ → List ℕ → List ℕ → List ℕ → Outcome
+taken bytes rows lambda delta = saying (takeLent bytes rows lambda delta) (recordDimension bytes) (recordHeight bytes) (recordDarts bytes)
