@@ -1,5 +1,5 @@
 -- One read of the direct walk, by what the code tests. Assumes nothing.
-use mathlib.Core.Path.{_≡_, refl, sym, ap, _∙_}
+use mathlib.Core.Path.{_≡_, sym, ap, _∙_}
 use mathlib.Core.Bool.{Bool, true, false}
 use mathlib.Core.List.{List}
 use Prim.Native.Nat.{ℕ, suc, _+_, _-_, _*_, _≤_, _<_}
@@ -63,14 +63,13 @@ pub record Sofar (rows lambda delta : List ℕ) (n N h l i b most t d c : ℕ) :
   pub row : t ≤ n
   pub dart : d < N
   pub left : c ≤ most
-  pub most-is : most ≡ 1 + 2 * N
   pub same : walk (entry N rows) n N h (each lambda) (each delta) l i b ≡ walkFrom (entry N rows) n N h (each lambda) (each delta) l i b (most - c) t d c
 
 pub start : (rows lambda delta : List ℕ) (n N h l i b : ℕ) → i ≤ n → b < N → Sofar rows lambda delta n N h l i b (1 + 2 * N) i b 0
 unfolding walk
 start rows lambda delta n N h l i b x y =
     let k : 1 + 2 * N ≡ 1 + 2 * N - 0 = omega arith in
-    record { row = x; dart = y; left = omega arith; most-is = refl; same = ap (λ (z : ℕ). walkFrom (entry N rows) n N h (each lambda) (each delta) l i b z i b 0) k }
+    record { row = x; dart = y; left = omega arith; same = ap (λ (z : ℕ). walkFrom (entry N rows) n N h (each lambda) (each delta) l i b z i b 0) k }
 
 module _ {rows lambda delta : List ℕ} {n N h l i b most t d c : ℕ} (s : Sofar rows lambda delta n N h l i b most t d c) where
   abbrev the-walk : Walked
@@ -101,7 +100,7 @@ module _ {rows lambda delta : List ℕ} {n N h l i b most t d c : ℕ} (s : Sofa
     one-more w x = sym (ap (readingOf l) (s .same ∙ ap (λ (z : ℕ). rest z t d c) more ∙ x))
 
     goes-on : (u : ℕ) → u ≤ n → e < N → rest (suc left) t d c ≡ rest left u e (c + 1) → Sofar rows lambda delta n N h l i b most u e (c + 1)
-    goes-on u lu le x = record { row = lu; dart = le; left = omega arith; most-is = s .most-is; same = s .same ∙ ap (λ (z : ℕ). rest z t d c) more ∙ x }
+    goes-on u lu le x = record { row = lu; dart = le; left = omega arith; same = s .same ∙ ap (λ (z : ℕ). rest z t d c) more ∙ x }
 
     pub read-strays : N ≤ e → none 5 l t d ≡ readingOf l the-walk
     read-strays x = one-more (stopped 5 t d) (strays (entry N rows) n N h (each lambda) (each delta) l i b left t d c x)

@@ -121,12 +121,10 @@ fn walk(
         }
         if m == t {
             t = m + 1;
+        } else if m + 1 == t {
+            t = m;
         } else {
-            if m + 1 == t {
-                t = m;
-            } else {
-                return Reading::Refused(Refusal::NoPass(level, Dim(t), e));
-            }
+            return Reading::Refused(Refusal::NoPass(level, Dim(t), e));
         }
         d = e;
     }
@@ -147,10 +145,10 @@ pub fn read(
 ) -> Reading
     ensures { λ r. ⌜ valueOf r ≡ readLent (n .0) darts (h .0) (now (rows .entry)) (now (lambda .entry)) (now (delta .entry)) (level .0) (involution .0) dart ⌝ }
 {
-    if let Check::Refused(r) = question(n, darts, h, rows, lambda, delta, level, involution, dart) {
-        return Reading::Refused(r);
+    match question(n, darts, h, rows, lambda, delta, level, involution, dart) {
+        Check::Refused(r) => Reading::Refused(r),
+        Check::Accepted => walk(n, darts, h, rows, lambda, delta, level, involution, dart),
     }
-    walk(n, darts, h, rows, lambda, delta, level, involution, dart)
 }
 
 // The entry of a dart in the table of a level, and the reads that it takes: none for a dart that is not on the level.

@@ -1,5 +1,5 @@
 -- `reading::lent` meets its contract. Assumes nothing.
-use mathlib.Core.Path.{_≡_, sym, ap, _∙_}
+use mathlib.Core.Path.{_≡_, sym, _∙_}
 use Prim.Native.Nat.{suc, _+_, _*_, _≤_}
 use native.Mathlib.Omega.{arith}
 use lib.ListN.{length}
@@ -9,7 +9,6 @@ use borrow.Author.Needs.{needs}
 use Rattle.maps.specs.Verdict.{accepted}
 use Rattle.maps.specs.Sizes.{sizes, number4}
 use Rattle.facts.proofs.Tables.{table-size}
-use Rattle.answers.specs.Numbers.{verdictOf}
 use Rattle.facts.proofs.Sizes.{sizes-sized}
 use Rattle.reading.proofs.Questions.{told, lent-refused}
 use Rattle.reading.specs.Readings.{sizesLent}
@@ -20,7 +19,7 @@ use Rattle.reading.proofs.lent.Tie as tie
 sized : (c : tie.After-enum-told) → let a = c .before .before .before .before .before .before .args in (sizes (a .n .0) (a .darts) (a .h .0) ≡ accepted) × (suc (a .n .0) * a .darts ≤ 20480) × (suc (a .n .0) * a .darts ≡ (a .n .0 + 1) * a .darts)
 sized c =
     let a = c .before .before .before .before .before .before .args in
-    let e = sym (c .before .before .sizes .ensures) ∙ ap verdictOf (c .enum-told .given .1) in
+    let e = sym (told (c .before .before .sizes .ensures) (c .enum-told .given .1)) in
     let z = sizes-sized (a .n .0) (a .darts) (a .h .0) e in
     let t = table-size (a .n .0) (a .darts) 0 (z .dimension) (z .darts) (omega arith) in
     (e, t .1, t .2)

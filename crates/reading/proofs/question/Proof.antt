@@ -1,15 +1,14 @@
 -- `reading::question` meets its contract. Assumes nothing.
-use mathlib.Core.Path.{sym, ap, _∙_}
+use mathlib.Core.Path.{sym}
 use native.Mathlib.Omega.{arith}
 use denote.Ref.{now}
 use borrow.Author.Needs.{needs}
-use Rattle.answers.specs.Numbers.{verdictOf}
 use Rattle.reading.proofs.Questions.{told, Measured, question-refused, lent-walks, no-level, no-involution, no-dart, start-marks, start-gone, start-on}
 use Rattle.reading.proofs.question.Statement.{statement}
 use Rattle.reading.proofs.question.Tie as tie
 
 measured : (c : tie.After-enum-told) → let a = c .before .before .before .before .before .before .args in Measured (a .n .0) (a .darts) (a .h .0) (now (a .rows)) (now (a .lambda)) (now (a .delta)) (a .level .0) (a .involution .0) (a .dart)
-measured c = record { ok = sym (c .before .before .lent .ensures) ∙ ap verdictOf (c .enum-told .given .1) }
+measured c = record { ok = sym (told (c .before .before .lent .ensures) (c .enum-told .given .1)) }
 
 lent-requires : tie.Need-lent-requires
 lent-requires c κs = search needs

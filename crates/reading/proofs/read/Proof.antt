@@ -1,8 +1,7 @@
 -- `reading::read` meets its contract. Assumes nothing.
-use mathlib.Core.Path.{sym, ap, _∙_}
+use mathlib.Core.Path.{sym, _∙_}
 use denote.Ref.{now}
 use borrow.Author.Needs.{needs}
-use Rattle.answers.specs.Numbers.{verdictOf}
 use Rattle.reading.proofs.Questions.{told, question-walks, read-walk, read-refused}
 use Rattle.reading.proofs.read.Statement.{statement}
 use Rattle.reading.proofs.read.Tie as tie
@@ -13,18 +12,18 @@ question-requires c κs = search needs
 enum-known-r : tie.Need-enum-known-r
 enum-known-r c = search needs
 
-returns : tie.Need-returns
-returns c = let a = c .before .before .before .before .before .before .before .args in read-refused (a .n .0) (a .darts) (a .h .0) (now (a .rows)) (now (a .lambda)) (now (a .delta)) (a .level .0) (a .involution .0) (a .dart) (c .before .r .given .0 .0) (told (c .before .before .before .question .ensures) (c .before .r .given .1))
-
 enum-told : tie.Need-enum-told
 enum-told c = search needs
 
 walk-requires : tie.Need-walk-requires
-walk-requires c κs = let a = c .before .before .before .before .before .before .args in question-walks (a .n .0) (a .darts) (a .h .0) (now (a .rows)) (now (a .lambda)) (now (a .delta)) (a .level .0) (a .involution .0) (a .dart) (sym (c .before .before .question .ensures) ∙ ap verdictOf (c .enum-told .given .1))
+walk-requires c κs = let a = c .before .before .before .before .before .before .args in question-walks (a .n .0) (a .darts) (a .h .0) (now (a .rows)) (now (a .lambda)) (now (a .delta)) (a .level .0) (a .involution .0) (a .dart) (sym (told (c .before .before .question .ensures) (c .enum-told .given .1)))
+
+returns : tie.Need-returns
+returns c = let a = c .before .before .before .before .before .before .before .args in read-refused (a .n .0) (a .darts) (a .h .0) (now (a .rows)) (now (a .lambda)) (now (a .delta)) (a .level .0) (a .involution .0) (a .dart) (c .before .r .given .0 .0) (told (c .before .before .before .question .ensures) (c .before .r .given .1))
 
 returns-2 : tie.Need-returns-2
-returns-2 c = let a = c .before .before .before .before .before .before .before .args in c .walk .ensures ∙ read-walk (a .n .0) (a .darts) (a .h .0) (now (a .rows)) (now (a .lambda)) (now (a .delta)) (a .level .0) (a .involution .0) (a .dart) (sym (c .before .before .before .question .ensures) ∙ ap verdictOf (c .before .enum-told .given .1))
+returns-2 c = let a = c .before .before .before .before .before .before .before .args in c .walk .ensures ∙ read-walk (a .n .0) (a .darts) (a .h .0) (now (a .rows)) (now (a .lambda)) (now (a .delta)) (a .level .0) (a .involution .0) (a .dart) (sym (told (c .before .before .before .question .ensures) (c .before .enum-told .given .1)))
 
 pub read-spec : {M : Type 1} → statement M
 read-spec =
-    tie.close (tie.spec question-requires enum-known-r returns enum-told walk-requires returns-2)
+    tie.close (tie.spec question-requires enum-known-r enum-told walk-requires returns returns-2)
