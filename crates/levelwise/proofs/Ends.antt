@@ -11,6 +11,7 @@ use Rattle.maps.specs.Walk.{Walked, ended, stopped}
 use Rattle.maps.specs.ByLevels.{readBase, overLevel, readLevel}
 
 module _ (a : Involutions) (n N h : ℕ) (Λ Δ : ℕ → ℕ) (i b : ℕ) where
+  -- if a reading ends, its dart is below N and has marks that are not refused
   abbrev pub Met : Walked → Type 0
   Met (ended u e c) = (e < N) × (refusedMarks n h (Λ e) (Δ e) ≡ false)
   Met (stopped number row dart) = Unit {0}

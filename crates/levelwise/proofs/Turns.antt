@@ -22,7 +22,7 @@ use Rattle.levelwise.specs.declared.Reached.the-variants.{Ended, Long, S
 use Rattle.levelwise.proofs.Reached.{the-type}
 use Rattle.levelwise.proofs.Ends.{level-met}
 
--- a reading that is none of the other cases than `Ended` is stopped
+-- a reading that has another case than `Ended` is stopped
 record Stopped (w : Walked) : Type 0 where
   number : ℕ
   row : ℕ

@@ -1,4 +1,4 @@
-mod Questions
+pub mod Questions
 mod Steps
 mod Entries
 mod Filling

@@ -4,7 +4,8 @@ use denote.Ref.{now}
 use Rattle.maps.specs.Verdict.{accepted}
 use Rattle.maps.specs.Read.{question}
 use Rattle.answers.specs.Numbers.{verdictOf}
-use Rattle.levelwise.proofs.Questions.{told, question-walks, by-levels-refused, by-levels-read}
+use Rattle.reading.proofs.Questions.{told, question-walks}
+use Rattle.levelwise.proofs.Questions.{by-levels-refused, by-levels-read}
 use borrow.Author.Needs.{needs}
 use Rattle.levelwise.proofs.read_by_levels.Statement.{statement}
 use Rattle.levelwise.proofs.read_by_levels.Tie as tie
