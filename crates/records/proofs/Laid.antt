@@ -7,7 +7,7 @@ use native.Mathlib.Omega.{arith}
 use lib.ListN.{length, getD, set, length-set}
 use lib.Seq.{getD-set-same, getD-set-other}
 use lib.Dec.{eqb, leb, ltb}
-use borrow.Author.Tests.{leb-true, leb-false, ltb-true, ltb-false, le-leb, lt-leb, lt-ltb, le-ltb, eqb-true, eqb-false}
+use borrow.Author.Tests.{leb-true, leb-false, ltb-true, ltb-false, le-leb, eqb-true, eqb-false}
 use Rattle.maps.specs.Table.{listed}
 use Rattle.facts.proofs.Tables.{length-listed, getD-listed, listed-of, listed-same}
 use Rattle.records.specs.Parts.{laid}
@@ -85,3 +85,8 @@ laid-after part value at m slice same =
 pub laid-front : (value : ℕ → ℕ) (m : ℕ) (slice : List ℕ) → laid value 0 m slice ≡ listed (λ x. cond (ltb x m) (value x) (getD slice x 0)) (length slice)
 unfolding laid
 laid-front value m slice = listed-same (laidAt value 0 m slice) (λ x. cond (ltb x m) (value x) (getD slice x 0)) (length slice) (λ x l. let z : 0 + m ≡ m = omega arith in let y : x - 0 ≡ x = omega arith in rw (le-leb 0 x (omega arith), z, y))
+
+-- all of a slice
+pub laid-all : (value : ℕ → ℕ) (m : ℕ) (slice list : List ℕ) → length slice ≡ m → length list ≡ m → ((x : ℕ) → x < m → getD list x 0 ≡ value x) → laid value 0 m slice ≡ list
+laid-all value m slice list e f h =
+    sym (laid-of value 0 m slice list (f ∙ sym e) (λ x l. (λ p q. let z : x ≡ x - 0 = omega arith in h x (omega arith) ∙ ap value z, λ n. absurd (n (omega arith) (omega arith)))))

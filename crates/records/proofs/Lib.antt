@@ -3,3 +3,4 @@ mod Laid
 mod Tagged
 mod Placed
 mod Whole
+pub mod RoundTrip

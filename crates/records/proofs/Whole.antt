@@ -83,7 +83,7 @@ header-told b n h N tag one e t k =
     }
 
 module _ (b rows lambda delta : List ℕ) (n h N : ℕ) (one : Bool) (t : Told b n h N one) where
-  lent-rest : takeLent b rows lambda delta ≡ restOf b n N one (length rows) (length lambda) (length delta)
+  pub lent-rest : takeLent b rows lambda delta ≡ restOf b n N one (length rows) (length lambda) (length delta)
   lent-rest = lent-parts b rows lambda delta ∙ rw (t .header, t .dimension, t .darts, t .kind)
 
   -- the rest is refused

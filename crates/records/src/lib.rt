@@ -31,6 +31,7 @@ enum Kind {
     Other,
 }
 
+// Rows' tags by ranges, the header's and the marks' tags apart.
 fn kind_of(tag: u8) -> Kind
     ensures { λ r. ⌜ r ≡ kindOf tag ⌝ }
 {
@@ -58,6 +59,7 @@ fn one_byte(tag: u8, darts: u16) -> bool
     }
 }
 
+// A byte as a wider number.
 fn wide(x: u8) -> u16
     ensures { λ r. ⌜ r ≡ x ⌝ }
 {

@@ -1,17 +1,14 @@
 -- `records::copy_bytes` meets its contract: the values written so far are laid, the rest is untouched. Assumes nothing.
-use lib.ListN.{length, getD, set}
-use Rattle.records.proofs.Laid.{laid-none, laid-more, length-laid}
-use Rattle.records.specs.Parts.{byteFrom, twoFrom, laid}
-use denote.Ref.{now}
-use lib.ListN.{length, getD, length-set}
-use native.Mathlib.Omega.{arith}
-use Prim.Native.Nat.{ℕ, suc, _+_, _*_, _-_, _≤_, _<_, zero-le}
 use mathlib.Core.Path.{_≡_, refl, sym, ap, _∙_}
+use Prim.Native.Nat.{ℕ, _+_, _-_, _≤_, zero-le}
+use native.Mathlib.Omega.{arith}
+use lib.ListN.{length, getD, set}
+use denote.Ref.{now}
 use borrow.Author.Needs.{needs}
+use Rattle.records.specs.Parts.{byteFrom, laid}
+use Rattle.records.proofs.Laid.{laid-none, laid-more, length-laid}
 use Rattle.records.proofs.copy_bytes.Statement.{statement}
 use Rattle.records.proofs.copy_bytes.Tie as tie
-use Rattle.records.proofs.copy_bytes.Reads as reads
-use Rattle.records.proofs.copy_bytes.Lts as lts
 
 abbrev Inv-loop : tie.InvT-loop
 Inv-loop bytes from count to₀ d₀ to d = (d ≤ count) × (to ≡ laid (byteFrom bytes from) 0 d to₀)
@@ -19,41 +16,47 @@ Inv-loop bytes from count to₀ d₀ to d = (d ≤ count) × (to ≡ laid (byteF
 abbrev μ-loop : tie.MeasureT-loop
 μ-loop bytes from count to₀ d₀ to d = count - d
 
--- src/lib.rt:213:5
 loop-holds : tie.Need-loop-holds Inv-loop μ-loop
 loop-holds c = let a = c .args in (zero-le, laid-none (byteFrom (now (a .bytes)) (a .from)) 0 (now (a .to)))
 
--- src/lib.rt:214:23
 add-to : tie.Need-add-to Inv-loop μ-loop
 add-to c = search needs
 
--- src/lib.rt:214:17
 shared-slice-read-to : tie.Need-shared-slice-read-to Inv-loop μ-loop
 shared-slice-read-to c = search needs
 
--- src/lib.rt:214:9
 slice-write-to : tie.Need-slice-write-to Inv-loop μ-loop
-slice-write-to c = let a = c .before .before .before .args in let l = c .before .before .loop in omega (arith, ap length (l .inv .1), length-laid (byteFrom (now (a .bytes)) (a .from)) 0 (l .d) (now (a .to)))
+slice-write-to c =
+    let a = c .before .before .before .args in
+    let l = c .before .before .loop in
+    omega (arith, ap length (l .inv .1), length-laid (byteFrom (now (a .bytes)) (a .from)) 0 (l .d) (now (a .to)))
 
--- src/lib.rt:213:9
 add-d : tie.Need-add-d Inv-loop μ-loop
 add-d c = search needs
 
--- src/lib.rt:213:5
 loop-less : tie.Need-loop-less Inv-loop μ-loop
 loop-less c = search needs
 
--- src/lib.rt:213:5
 loop-again : tie.Need-loop-again Inv-loop μ-loop
-loop-again c = let a = c .before .before .before .args in let l = c .before .before .loop in let b = now (a .bytes) in let z : 0 + l .d ≡ l .d = omega arith in (omega arith, ap (λ o. set o (l .d) (getD (now (a .bytes)) (a .from + l .d) 0)) (l .inv .1) ∙ ap (λ (x : ℕ). set (laid (byteFrom b (a .from)) 0 (l .d) (now (a .to))) x (getD b (a .from + l .d) 0)) (sym z) ∙ laid-more (byteFrom (now (a .bytes)) (a .from)) 0 (l .d) (getD (now (a .bytes)) (a .from + l .d) 0) (now (a .to)) (omega arith) refl)
+loop-again c =
+    let a = c .before .before .before .args in
+    let l = c .before .before .loop in
+    let b = now (a .bytes) in
+    let z : 0 + l .d ≡ l .d = omega arith in
+    (omega arith, ap (λ o. set o (l .d) (getD (now (a .bytes)) (a .from + l .d) 0)) (l .inv .1) ∙ ap (λ (x : ℕ). set (laid (byteFrom b (a .from)) 0 (l .d) (now (a .to))) x (getD b (a .from + l .d) 0)) (sym z) ∙ laid-more (byteFrom (now (a .bytes)) (a .from)) 0 (l .d) (getD (now (a .bytes)) (a .from + l .d) 0) (now (a .to)) (omega arith) refl)
 
--- src/lib.rt:209:1
 same-length : tie.Need-same-length Inv-loop μ-loop
-same-length c = let a = c .before .before .args in let l = c .before .loop in ap length (l .inv .1) ∙ length-laid (byteFrom (now (a .bytes)) (a .from)) 0 (l .d) (now (a .to))
+same-length c =
+    let a = c .before .before .args in
+    let l = c .before .loop in
+    ap length (l .inv .1) ∙ length-laid (byteFrom (now (a .bytes)) (a .from)) 0 (l .d) (now (a .to))
 
--- src/lib.rt:209:1
 returns : tie.Need-returns Inv-loop μ-loop
-returns c = let a = c .before .before .args in let l = c .before .loop in let e : l .d ≡ a .count = omega arith in l .inv .1 ∙ ap (λ (x : ℕ). laid (byteFrom (now (a .bytes)) (a .from)) 0 x (now (a .to))) e
+returns c =
+    let a = c .before .before .args in
+    let l = c .before .loop in
+    let e : l .d ≡ a .count = omega arith in
+    l .inv .1 ∙ ap (λ (x : ℕ). laid (byteFrom (now (a .bytes)) (a .from)) 0 x (now (a .to))) e
 
 pub copy-bytes-spec : {M : Type 1} → statement M
 copy-bytes-spec =

@@ -1,5 +1,5 @@
 -- `records::field` meets its contract: each return rewrites with the tests that led there. Assumes nothing.
-use mathlib.Core.Path.{_≡_, sym, _∙_}
+use mathlib.Core.Path.{sym, _∙_}
 use Prim.Native.Nat.{_+_, _*_}
 use native.Mathlib.Omega.{arith}
 use lib.ListN.{length, getD}
@@ -9,75 +9,72 @@ use borrow.Author.Tests.{le-leb, lt-leb, lt-ltb, le-ltb, eq-eqb, ne-eqb}
 use Rattle.maps.specs.Record.{field}
 use Rattle.records.proofs.field.Statement.{statement}
 use Rattle.records.proofs.field.Tie as tie
-use Rattle.records.proofs.field.Reads as reads
-use Rattle.records.proofs.field.Lts as lts
-use Rattle.records.proofs.two_bytes.Reads as two-bytes-reads
 
--- src/lib.rt:85:9
 returns : tie.Need-returns
 unfolding field
 returns c = let a = c .before .before .args in let b = now (a .bytes) in simp (le-leb (length b) (a .at) (omega arith))
 
--- src/lib.rt:87:8
 shared-slice-read-if2 : tie.Need-shared-slice-read-if2
 shared-slice-read-if2 c = search needs
 
--- src/lib.rt:88:9
 returns-2 : tie.Need-returns-2
 unfolding field
-returns-2 c = let a = c .before .before .before .before .args in let b = now (a .bytes) in simp (lt-leb (length b) (a .at) (omega arith), ne-eqb (getD b (a .at) 0) (a .tag) (c .if2 .taken))
+returns-2 c =
+    let a = c .before .before .before .before .args in
+    let b = now (a .bytes) in
+    simp (lt-leb (length b) (a .at) (omega arith), ne-eqb (getD b (a .at) 0) (a .tag) (c .if2 .taken))
 
--- src/lib.rt:90:22
 add-if3 : tie.Need-add-if3
 add-if3 c = search needs
 
--- src/lib.rt:91:9
 returns-3 : tie.Need-returns-3
 unfolding field
-returns-3 c = let a = c .before .before .before .before .before .args in let b = now (a .bytes) in simp (lt-leb (length b) (a .at) (omega arith), eq-eqb (getD b (a .at) 0) (a .tag) (c .before .if2 .left), lt-ltb (length b) (a .at + 3) (omega arith))
+returns-3 c =
+    let a = c .before .before .before .before .before .args in
+    let b = now (a .bytes) in
+    simp (lt-leb (length b) (a .at) (omega arith), eq-eqb (getD b (a .at) 0) (a .tag) (c .before .if2 .left), lt-ltb (length b) (a .at + 3) (omega arith))
 
--- src/lib.rt:93:21
 add-length-at : tie.Need-add-length-at
 add-length-at c = search needs
 
--- src/lib.rt:94:18
 shared-slice-read-two-bytes : tie.Need-shared-slice-read-two-bytes
 shared-slice-read-two-bytes c = search needs
 
--- src/lib.rt:94:42
 add-two-bytes : tie.Need-add-two-bytes
 add-two-bytes c = search needs
 
--- src/lib.rt:94:36
 shared-slice-read-two-bytes-2 : tie.Need-shared-slice-read-two-bytes-2
 shared-slice-read-two-bytes-2 c = search needs
 
--- src/lib.rt:94:8
 two-bytes-requires : tie.Need-two-bytes-requires
 two-bytes-requires c κs = search needs
 
--- src/lib.rt:95:9
 returns-4 : tie.Need-returns-4
 unfolding field
-returns-4 c = let a = c .before .before .before .before .before .before .before .before .before .args in let b = now (a .bytes) in simp (lt-leb (length b) (a .at) (omega arith), eq-eqb (getD b (a .at) 0) (a .tag) (c .before .before .before .before .before .if2 .left), le-ltb (length b) (a .at + 3) (omega arith), ne-eqb (getD b (a .at + 1) 0 + 256 * getD b (a .at + 1 + 1) 0) (a .size) (λ q. c .if4 .taken (c .before .two-bytes .ensures ∙ q)))
+returns-4 c =
+    let a = c .before .before .before .before .before .before .before .before .before .args in
+    let b = now (a .bytes) in
+    simp (lt-leb (length b) (a .at) (omega arith), eq-eqb (getD b (a .at) 0) (a .tag) (c .before .before .before .before .before .if2 .left), le-ltb (length b) (a .at + 3) (omega arith), ne-eqb (getD b (a .at + 1) 0 + 256 * getD b (a .at + 1 + 1) 0) (a .size) (λ q. c .if4 .taken (c .before .two-bytes .ensures ∙ q)))
 
--- src/lib.rt:97:22
 add-if5 : tie.Need-add-if5
 add-if5 c = search needs
 
--- src/lib.rt:97:22
 add-if5-2 : tie.Need-add-if5-2
 add-if5-2 c = search needs
 
--- src/lib.rt:98:9
 returns-5 : tie.Need-returns-5
 unfolding field
-returns-5 c = let a = c .before .before .before .before .before .before .before .before .before .before .args in let b = now (a .bytes) in simp (lt-leb (length b) (a .at) (omega arith), eq-eqb (getD b (a .at) 0) (a .tag) (c .before .before .before .before .before .before .if2 .left), le-ltb (length b) (a .at + 3) (omega arith), eq-eqb (getD b (a .at + 1) 0 + 256 * getD b (a .at + 1 + 1) 0) (a .size) (sym (c .before .before .two-bytes .ensures) ∙ c .before .if4 .left), lt-ltb (length b) (a .at + 3 + a .size) (omega arith))
+returns-5 c =
+    let a = c .before .before .before .before .before .before .before .before .before .before .args in
+    let b = now (a .bytes) in
+    simp (lt-leb (length b) (a .at) (omega arith), eq-eqb (getD b (a .at) 0) (a .tag) (c .before .before .before .before .before .before .if2 .left), le-ltb (length b) (a .at + 3) (omega arith), eq-eqb (getD b (a .at + 1) 0 + 256 * getD b (a .at + 1 + 1) 0) (a .size) (sym (c .before .before .two-bytes .ensures) ∙ c .before .if4 .left), lt-ltb (length b) (a .at + 3 + a .size) (omega arith))
 
--- src/lib.rt:79:1
 returns-6 : tie.Need-returns-6
 unfolding field
-returns-6 c = let a = c .before .before .before .before .before .before .before .before .before .before .args in let b = now (a .bytes) in simp (lt-leb (length b) (a .at) (omega arith), eq-eqb (getD b (a .at) 0) (a .tag) (c .before .before .before .before .before .before .if2 .left), le-ltb (length b) (a .at + 3) (omega arith), eq-eqb (getD b (a .at + 1) 0 + 256 * getD b (a .at + 1 + 1) 0) (a .size) (sym (c .before .before .two-bytes .ensures) ∙ c .before .if4 .left), le-ltb (length b) (a .at + 3 + a .size) (omega arith))
+returns-6 c =
+    let a = c .before .before .before .before .before .before .before .before .before .before .args in
+    let b = now (a .bytes) in
+    simp (lt-leb (length b) (a .at) (omega arith), eq-eqb (getD b (a .at) 0) (a .tag) (c .before .before .before .before .before .before .if2 .left), le-ltb (length b) (a .at + 3) (omega arith), eq-eqb (getD b (a .at + 1) 0 + 256 * getD b (a .at + 1 + 1) 0) (a .size) (sym (c .before .before .two-bytes .ensures) ∙ c .before .if4 .left), le-ltb (length b) (a .at + 3 + a .size) (omega arith))
 
 pub field-spec : {M : Type 1} → statement M
 field-spec =

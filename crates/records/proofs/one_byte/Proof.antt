@@ -10,35 +10,25 @@ use Rattle.records.specs.Kinds.{kindOf}
 use Rattle.records.proofs.Settled.{settled, kind-settles}
 use Rattle.records.proofs.one_byte.Statement.{statement}
 use Rattle.records.proofs.one_byte.Tie as tie
-use Rattle.records.proofs.one_byte.Reads as reads
-use Rattle.records.proofs.one_byte.Lts as lts
-use Rattle.records.proofs.kind_of.Reads as kind-of-reads
 
--- src/lib.rt:49:11
 kind-of-requires : tie.Need-kind-of-requires
 kind-of-requires c κs = search needs
 
--- src/lib.rt:50:22
 enum-known-row : tie.Need-enum-known-row
 enum-known-row c = search needs
 
--- src/lib.rt:57:26
 enum-told : tie.Need-enum-told
 enum-told c = search needs
 
--- src/lib.rt:58:25
 enum-told-2 : tie.Need-enum-told-2
 enum-told-2 c = search needs
 
--- src/lib.rt:59:25
 enum-told-3 : tie.Need-enum-told-3
 enum-told-3 c = search needs
 
--- src/lib.rt:60:24
 enum-told-4 : tie.Need-enum-told-4
 enum-told-4 c = search needs
 
--- src/lib.rt:61:24
 enum-told-5 : tie.Need-enum-told-5
 enum-told-5 c = search needs
 
@@ -46,31 +36,28 @@ enum-told-5 c = search needs
 told : (t N : ℕ) (k told : Kind) → k ≡ kindOf t → k ≡ told → settled told N ≡ (eqb t 0x20 && leb N 256)
 told t N k x e f = ap (λ (y : Kind). settled y N) (sym f ∙ e) ∙ kind-settles t N
 
--- src/lib.rt:46:1
 returns : tie.Need-returns
-returns c = let a = c .before .before .before .before .before .args in simp (eq-eqb _ _ (c .if1 .taken)) at (told (a .tag) (a .darts) _ _ (c .before .before .before .before .kind-of .ensures) (c .before .before .row .given .1))
+returns c =
+    let a = c .before .before .before .before .before .args in
+    simp (eq-eqb _ _ (c .if1 .taken)) at (told (a .tag) (a .darts) _ _ (c .before .before .before .before .kind-of .ensures) (c .before .before .row .given .1))
 
--- src/lib.rt:46:1
 returns-2 : tie.Need-returns-2
-returns-2 c = let a = c .before .before .before .before .before .args in simp (ne-eqb _ _ (c .if1 .left)) at (told (a .tag) (a .darts) _ _ (c .before .before .before .before .kind-of .ensures) (c .before .before .row .given .1))
+returns-2 c =
+    let a = c .before .before .before .before .before .args in
+    simp (ne-eqb _ _ (c .if1 .left)) at (told (a .tag) (a .darts) _ _ (c .before .before .before .before .kind-of .ensures) (c .before .before .row .given .1))
 
--- src/lib.rt:46:1
 returns-3 : tie.Need-returns-3
 returns-3 c = let a = c .before .before .before .args in told (a .tag) (a .darts) _ _ (c .before .before .kind-of .ensures) (c .enum-told .given .1)
 
--- src/lib.rt:46:1
 returns-4 : tie.Need-returns-4
 returns-4 c = let a = c .before .before .before .args in told (a .tag) (a .darts) _ _ (c .before .before .kind-of .ensures) (c .enum-told2 .given .1)
 
--- src/lib.rt:46:1
 returns-5 : tie.Need-returns-5
 returns-5 c = let a = c .before .before .before .args in told (a .tag) (a .darts) _ _ (c .before .before .kind-of .ensures) (c .enum-told3 .given .1)
 
--- src/lib.rt:46:1
 returns-6 : tie.Need-returns-6
 returns-6 c = let a = c .before .before .before .args in told (a .tag) (a .darts) _ _ (c .before .before .kind-of .ensures) (c .enum-told4 .given .1)
 
--- src/lib.rt:46:1
 returns-7 : tie.Need-returns-7
 returns-7 c = let a = c .before .before .before .args in told (a .tag) (a .darts) _ _ (c .before .before .kind-of .ensures) (c .enum-told5 .given .1)
 

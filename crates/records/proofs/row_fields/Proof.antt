@@ -1,21 +1,18 @@
 -- `records::row_fields` meets its contract: the rows before are accepted. Assumes nothing.
-use native.Mathlib.Nat.{zero-mul}
-use Rattle.facts.proofs.Tables.{next-row}
-use Rattle.maps.specs.Record.{field}
-use Rattle.maps.specs.Verdict.{accepted, _then_, scan}
-use Rattle.answers.specs.Numbers.{verdictOf}
-use Rattle.records.proofs.Tagged.{field-room, rows-reach, scan-more, scan-refused, saying-refused}
-use Rattle.records.specs.Parts.{rowField, headerOf}
-use denote.Ref.{now}
-use native.Mathlib.Omega.{arith}
-use Prim.Native.Nat.{ℕ, suc, _+_, _*_, _-_, _≤_, _<_, zero-le}
 use mathlib.Core.Path.{_≡_, refl, sym, ap, _∙_}
+use Prim.Native.Nat.{ℕ, suc, _+_, _*_, _-_, _≤_, zero-le}
+use native.Mathlib.Nat.{zero-mul}
+use native.Mathlib.Omega.{arith}
+use denote.Ref.{now}
 use borrow.Author.Needs.{needs}
+use Rattle.maps.specs.Record.{field}
+use Rattle.maps.specs.Verdict.{accepted, scan}
+use Rattle.facts.proofs.Tables.{next-row}
+use Rattle.answers.specs.Numbers.{verdictOf}
+use Rattle.records.specs.Parts.{rowField}
+use Rattle.records.proofs.Tagged.{rows-reach, scan-more, scan-refused}
 use Rattle.records.proofs.row_fields.Statement.{statement}
 use Rattle.records.proofs.row_fields.Tie as tie
-use Rattle.records.proofs.row_fields.Reads as reads
-use Rattle.records.proofs.row_fields.Lts as lts
-use Rattle.records.proofs.field.Reads as field-reads
 
 abbrev Inv-loop : tie.InvT-loop
 Inv-loop bytes n tag size at₀ i₀ i-end at i = (i-end ≡ n + 1) × (i ≤ i-end) × (at ≡ 7 + i * (3 + size)) × (scan i (rowField bytes tag size) ≡ accepted)
@@ -23,58 +20,62 @@ Inv-loop bytes n tag size at₀ i₀ i-end at i = (i-end ≡ n + 1) × (i ≤ i-
 abbrev μ-loop : tie.MeasureT-loop
 μ-loop bytes n tag size at₀ i₀ i-end at i = i-end - i
 
--- src/lib.rt:155:17
 add-i-end : tie.Need-add-i-end Inv-loop μ-loop
 add-i-end c = search needs
 
--- src/lib.rt:155:5
 loop-holds : tie.Need-loop-holds Inv-loop μ-loop
 unfolding scan
 loop-holds c = (refl, zero-le, omega (arith, zero-mul (3 + c .before .args .size)), refl)
 
--- src/lib.rt:156:32
 add-field : tie.Need-add-field Inv-loop μ-loop
 add-field c = search needs
 
--- src/lib.rt:156:15
 field-requires : tie.Need-field-requires Inv-loop μ-loop
-field-requires c κs = let a = c .before .before .before .args in let l = c .before .loop in (omega (arith, rows-reach (l .i) (a .size) (omega arith) (omega arith)), omega arith)
+field-requires c κs =
+    let a = c .before .before .before .args in
+    let l = c .before .loop in
+    (omega (arith, rows-reach (l .i) (a .size) (omega arith) (omega arith)), omega arith)
 
--- src/lib.rt:157:28
 enum-known-r : tie.Need-enum-known-r Inv-loop μ-loop
 enum-known-r c = search needs
 
--- src/lib.rt:157:34
 returns : tie.Need-returns Inv-loop μ-loop
-returns c = let a = c .before .before .before .before .before .before .before .args in let l = c .before .before .before .before .before .loop in scan-refused (c .before .r .given .0 .0) (suc (a .n)) (rowField (now (a .bytes)) (a .tag) (a .size)) (l .i) (omega arith) (l .inv .3) (ap verdictOf (sym (c .before .r .given .1)) ∙ c .before .before .before .field .ensures ∙ ap (λ (x : ℕ). field (now (a .bytes)) x (a .tag + l .i) (a .size)) (l .inv .2))
+returns c =
+    let a = c .before .before .before .before .before .before .before .args in
+    let l = c .before .before .before .before .before .loop in
+    scan-refused (c .before .r .given .0 .0) (suc (a .n)) (rowField (now (a .bytes)) (a .tag) (a .size)) (l .i) (omega arith) (l .inv .3) (ap verdictOf (sym (c .before .r .given .1)) ∙ c .before .before .before .field .ensures ∙ ap (λ (x : ℕ). field (now (a .bytes)) x (a .tag + l .i) (a .size)) (l .inv .2))
 
--- src/lib.rt:158:43
 enum-told : tie.Need-enum-told Inv-loop μ-loop
 enum-told c = search needs
 
--- src/lib.rt:158:43
 add-at : tie.Need-add-at Inv-loop μ-loop
 add-at c = let a = c .before .before .before .before .before .before .args in omega arith
 
--- src/lib.rt:158:37
 add-at-2 : tie.Need-add-at-2 Inv-loop μ-loop
-add-at-2 c = let a = c .before .before .before .before .before .before .args in let l = c .before .before .before .before .loop in omega (arith, rows-reach (l .i) (a .size) (omega arith) (omega arith))
+add-at-2 c =
+    let a = c .before .before .before .before .before .before .args in
+    let l = c .before .before .before .before .loop in
+    omega (arith, rows-reach (l .i) (a .size) (omega arith) (omega arith))
 
--- src/lib.rt:155:9
 add-i : tie.Need-add-i Inv-loop μ-loop
 add-i c = search needs
 
--- src/lib.rt:155:5
 loop-less : tie.Need-loop-less Inv-loop μ-loop
 loop-less c = search needs
 
--- src/lib.rt:155:5
 loop-again : tie.Need-loop-again Inv-loop μ-loop
-loop-again c = let a = c .before .before .before .before .before .before .args in let l = c .before .before .before .before .loop in let s = a .size in (refl, omega arith, omega (arith, next-row (l .i) (3 + s)), scan-more (l .i) (rowField (now (a .bytes)) (a .tag) s) (l .inv .3) (ap (λ (x : ℕ). field (now (a .bytes)) x (a .tag + l .i) s) (sym (l .inv .2)) ∙ sym (c .before .before .field .ensures) ∙ ap verdictOf (c .enum-told .given .1)))
+loop-again c =
+    let a = c .before .before .before .before .before .before .args in
+    let l = c .before .before .before .before .loop in
+    let s = a .size in
+    (refl, omega arith, omega (arith, next-row (l .i) (3 + s)), scan-more (l .i) (rowField (now (a .bytes)) (a .tag) s) (l .inv .3) (ap (λ (x : ℕ). field (now (a .bytes)) x (a .tag + l .i) s) (sym (l .inv .2)) ∙ sym (c .before .before .field .ensures) ∙ ap verdictOf (c .enum-told .given .1)))
 
--- src/lib.rt:150:1
 returns-2 : tie.Need-returns-2 Inv-loop μ-loop
-returns-2 c = let a = c .before .before .before .args in let l = c .before .loop in let e : l .i ≡ suc (a .n) = omega arith in sym (l .inv .3) ∙ ap (λ (x : ℕ). scan x (rowField (now (a .bytes)) (a .tag) (a .size))) e
+returns-2 c =
+    let a = c .before .before .before .args in
+    let l = c .before .loop in
+    let e : l .i ≡ suc (a .n) = omega arith in
+    sym (l .inv .3) ∙ ap (λ (x : ℕ). scan x (rowField (now (a .bytes)) (a .tag) (a .size))) e
 
 pub row-fields-spec : {M : Type 1} → statement M
 row-fields-spec =

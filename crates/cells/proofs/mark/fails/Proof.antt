@@ -1,0 +1,68 @@
+-- `cells::mark::fails` meets its contract. Assumes nothing.
+use mathlib.Core.Path.{sym, _∙_}
+use Prim.Native.Nat.{ℕ, _+_, _*_, _≤_, _<_, zero-le}
+use native.Mathlib.Omega.{arith}
+use lib.ListN.{length}
+use denote.Ref.{now}
+use borrow.Author.Tests.{lt-ltb, le-ltb, not-true, not-false}
+use Rattle.maps.specs.Table.{entry}
+use Rattle.cells.proofs.Explicit.{level-entry, level-inside}
+use borrow.Author.Needs.{needs}
+use Rattle.cells.proofs.mark.fails.Statement.{statement}
+use Rattle.cells.proofs.mark.fails.Tie as tie
+
+-- the entries of the level, and the neighbours of a dart present
+entries : (c : tie.Else1) → let a = c .before .before .before .before .args in (i d : ℕ) → i ≤ a .n .0 → d < a .darts → (i * a .darts + d < length (now (a .table))) × (length (now (a .table)) ≤ 20480)
+entries c = let s = c .before .before .before .before in level-entry (s .args .n .0) (s .args .darts) (now (s .args .table)) (s .pre .0)
+
+inside : (c : tie.Else2) → let a = c .before .before .before .before .before .before .args in (j : ℕ) → j ≤ a .n .0 → entry (a .darts) (now (a .table)) j (a .d) < a .darts
+inside c = let s = c .before .before .before .before .before .before in level-inside (s .args .n .0) (s .args .darts) (now (s .args .table)) (s .pre .0) (s .args .d) (s .pre .2) (sym (c .before .there .ensures) ∙ not-false (c .before .there .result) (c .if2 .left))
+
+add-if1 : tie.Need-add-if1
+add-if1 c = search needs
+
+returns : tie.Need-returns
+returns c = simp (le-ltb _ _ (c .if1 .taken))
+
+there-requires : tie.Need-there-requires
+there-requires c κs = let s = c .before .before .before .before in entries c 0 (s .args .d) zero-le (s .pre .2)
+
+returns-2 : tie.Need-returns-2
+returns-2 c = simp (lt-ltb _ _ (c .before .before .if1 .left), sym (c .before .there .ensures) ∙ not-true (c .before .there .result) (c .if2 .taken))
+
+add-t10 : tie.Need-add-t10
+add-t10 c = search needs
+
+add-t10-2 : tie.Need-add-t10-2
+add-t10-2 c = search needs
+
+at-requires : tie.Need-at-requires
+at-requires c κs = let s = c .before .before .before .before .before .before .before .before in entries (c .before .before .before .before) (s .args .dimension .0 + 1) (s .args .d) (omega arith) (s .pre .2)
+
+at-requires-2 : tie.Need-at-requires-2
+at-requires-2 c κs = let s = c .before .before .before .before .before .before .before .before .before in entries (c .before .before .before .before .before) (s .args .dimension .0 + 2) (s .args .d) (omega arith) (s .pre .2)
+
+at-requires-3 : tie.Need-at-requires-3
+at-requires-3 c κs = let s = c .before .before .before .before .before .before .before .before .before .before in let δ = s .args .dimension .0 in entries (c .before .before .before .before .before .before) (δ + 2) (c .before .at .result) (omega arith) (rw (c .before .at .ensures) (inside (c .before .before .before .before) (δ + 1) (omega arith)))
+
+at-requires-4 : tie.Need-at-requires-4
+at-requires-4 c κs = let s = c .before .before .before .before .before .before .before .before .before .before .before in let δ = s .args .dimension .0 in entries (c .before .before .before .before .before .before .before) (δ + 1) (c .before .at2 .result) (omega arith) (rw (c .before .at2 .ensures) (inside (c .before .before .before .before .before) (δ + 2) (omega arith)))
+
+returns-3 : tie.Need-returns-3
+returns-3 c = let e = c .before .before .before .before .before .before in simp (lt-ltb _ _ (e .before .before .if1 .left), sym (e .before .there .ensures) ∙ not-false (e .before .there .result) (e .if2 .left), c .at4 .ensures, c .before .at3 .ensures, c .before .before .at2 .ensures, c .before .before .before .at .ensures)
+
+pub fails-spec : {M : Type 1} → statement M
+fails-spec =
+    tie.close
+    (tie.spec
+    add-if1
+    returns
+    there-requires
+    returns-2
+    add-t10
+    add-t10-2
+    at-requires
+    at-requires-2
+    at-requires-3
+    at-requires-4
+    returns-3)

@@ -1,0 +1,13 @@
+-- `cells::mark::there` meets its contract. Assumes nothing.
+use borrow.Author.Needs.{needs}
+use Rattle.cells.proofs.mark.there.Statement.{statement}
+use Rattle.cells.proofs.mark.there.Tie as tie
+
+at-requires : tie.Need-at-requires
+at-requires c κs = search needs
+
+returns : tie.Need-returns
+returns c = cc
+
+pub there-spec : {M : Type 1} → statement M
+there-spec = tie.close (tie.spec at-requires returns)

@@ -1,0 +1,3 @@
+pub mod Orbits
+pub mod Search
+pub mod Marked

@@ -1,0 +1,11 @@
+mod KernelRows
+mod KernelSteps
+mod KernelChecks
+mod KernelRemoval
+mod Places
+mod ClimbMarks
+mod ClimbVerdicts
+mod ClimbSteps
+mod ClimbCheck
+mod AddRow
+mod AddCheck

@@ -1,0 +1,46 @@
+-- `checking::pyramid::add_marked` meets its contract. Assumes nothing.
+use mathlib.Core.Path.{sym, ap, _∙_}
+use denote.Ref.{now}
+use borrow.Author.Needs.{needs}
+use Rattle.answers.specs.Numbers.{verdictOf}
+use Rattle.answers.proofs.Refusals.{refused-then}
+use Rattle.checking.specs.Climb.{baseAndMarks}
+use Rattle.checking.specs.Added.{rowMarks}
+use Rattle.checking.proofs.pyramid.add_marked.Statement.{statement}
+use Rattle.checking.proofs.pyramid.add_marked.Tie as tie
+use Rattle.checking.proofs.pyramid.add_marked.Reads as reads
+use Rattle.checking.proofs.pyramid.add_marked.Lts as lts
+use Rattle.checking.proofs.pyramid.base_and_marks.Reads as base-and-marks-reads
+use Rattle.checking.proofs.pyramid.row_checked.Reads as row-checked-reads
+
+base-and-marks-requires : tie.Need-base-and-marks-requires
+base-and-marks-requires c κs = search needs
+
+enum-known-r : tie.Need-enum-known-r
+enum-known-r c = search needs
+
+returns : tie.Need-returns
+returns c =
+    let a = c .before .before .before .before .before .before .before .before .args in
+    refused-then (c .before .r .given .0 .0) (baseAndMarks (a .n .0) (a .darts) (a .h .0) (now (a .rows)) (now (a .lambda)) (now (a .delta))) (rowMarks (a .n .0) (a .darts) (a .h .0) (now (a .lambda)) (now (a .row)))
+    (sym (ap verdictOf (c .before .r .given .1)) ∙ c .before .before .before .base-and-marks .ensures)
+
+enum-told : tie.Need-enum-told
+enum-told c = search needs
+
+row-checked-requires : tie.Need-row-checked-requires
+row-checked-requires c κs = search needs
+
+returns-2 : tie.Need-returns-2
+returns-2 c = rw (sym (c .before .before .before .base-and-marks .ensures) ∙ ap verdictOf (c .before .enum-told .given .1)) (c .row-checked .ensures)
+
+pub add-marked-spec : {M : Type 1} → statement M
+add-marked-spec =
+    tie.close
+    (tie.spec
+    base-and-marks-requires
+    enum-known-r
+    returns
+    enum-told
+    row-checked-requires
+    returns-2)

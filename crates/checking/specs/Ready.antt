@@ -1,0 +1,67 @@
+-- What the tests and the removal of one kernel ask of the level's table and the mark row. Assumes nothing: these are definitions.
+use mathlib.Core.Path.{_≡_}
+use mathlib.Core.Logic.{_⊎_}
+use mathlib.Core.Bool.{Bool, true, cond, _&&_, not}
+use mathlib.Core.List.{List}
+use Prim.Native.Nat.{ℕ, suc, _*_, _<_, _≤_}
+use lib.ListN.{length}
+use lib.Dec.{eqb, ltb}
+use Rattle.maps.specs.Mark.{isMark, stay, between}
+use Rattle.maps.specs.Kernel.{Kernel}
+use Rattle.maps.specs.Removal.{goOn}
+use Rattle.maps.specs.Table.{entry, each, absent}
+use Rattle.maps.specs.CheckBase.{present}
+use Rattle.facts.proofs.Checks.{There, Sound}
+
+-- the mark of dart d in kernel l below h: Δ where Λ is l, else 255
+abbrev pub kernelMark : (ℕ → ℕ) → (ℕ → ℕ) → ℕ → ℕ → ℕ
+kernelMark Λ Δ l d = cond (eqb (Λ d) l) (Δ d) stay
+
+-- sizes in range, and the lengths that go with them
+pub record Shape (n N : ℕ) (row table : List ℕ) : Type 0 where
+  pub dimension : n ≤ 4
+  pub darts : N ≤ 4096
+  pub row-long : length row ≡ N
+  pub long : length table ≡ suc n * N
+
+-- an explicit level, and a mark row that marks only darts present
+pub record Tested (n N : ℕ) (row table : List ℕ) : Type 0 where
+  pub shape : Shape n N row table
+  pub sound : Sound (entry N table) n N (present N table)
+  pub marks : (d : ℕ) → d < N → (isMark n (each row d) ≡ true) ⊎ (each row d ≡ stay)
+  pub marked : (d : ℕ) → d < N → isMark n (each row d) ≡ true → present N table d ≡ true
+
+-- and the row is a kernel of the level
+pub record Ready (n N : ℕ) (row table : List ℕ) : Type 0 where
+  pub tested : Tested n N row table
+  pub kernel : Kernel (entry N table) n (There (entry N table) n N (present N table)) (each row)
+
+-- what following the marks asks: from a dart marked every involution leads to a dart, and the one that passes it to a dart of the same mark
+pub record Followed (n N : ℕ) (row table : List ℕ) : Type 0 where
+  pub shape : Shape n N row table
+  pub marks : (d : ℕ) → d < N → (isMark n (each row d) ≡ true) ⊎ (each row d ≡ stay)
+  pub inside : (t d : ℕ) → t ≤ n → d < N → isMark n (each row d) ≡ true → entry N table t d < N
+  pub whole : (d : ℕ) → d < N → isMark n (each row d) ≡ true → each row (entry N table (between (each row d) .1) d) ≡ each row d
+
+-- the darts that the removal leaves
+abbrev pub left : ℕ → ℕ → List ℕ → List ℕ → ℕ → Bool
+left n N row table d = present N table d && not (isMark n (each row d))
+
+-- an entry below N of a dart that is not marked leads on past the marks; every other entry stays
+unfoldable pub relinked : ℕ → ℕ → List ℕ → List ℕ → ℕ → ℕ → ℕ
+relinked n N row table i d = cond (ltb (entry N table i d) N && not (isMark n (each row d))) (goOn (entry N table) n (each row) N i (entry N table i d)) (entry N table i d)
+
+-- 65,535 at the entries of the darts marked; every other entry stays
+unfoldable pub cleared : ℕ → ℕ → List ℕ → List ℕ → ℕ → ℕ → ℕ
+cleared n N row table i d = cond (isMark n (each row d)) absent (entry N table i d)
+
+-- the table after, with f at the entries of row i, and the other rows as before
+pub record RowIs (n N i : ℕ) (f : ℕ → ℕ) (before after : List ℕ) : Type 0 where
+  pub long : length after ≡ length before
+  pub row : (d : ℕ) → d < N → entry N after i d ≡ f d
+  pub others : (t d : ℕ) → t ≤ n → d < N → (t ≡ i → ⊥) → entry N after t d ≡ entry N before t d
+
+-- the table after, with f at every entry
+pub record TableIs (n N : ℕ) (f : ℕ → ℕ → ℕ) (before after : List ℕ) : Type 0 where
+  pub long : length after ≡ length before
+  pub rows : (t d : ℕ) → t ≤ n → d < N → entry N after t d ≡ f t d

@@ -1,0 +1,314 @@
+// Check a whole pyramid, with one lent table, and add a level. A mark row of 4,096 bytes is all the local memory. Assumes nothing.
+use super::kernel::mark_row;
+use super::kernel::removable;
+use super::kernel::remove;
+use super::kernel::whole;
+use super::map::map_refused;
+use answers::Check;
+use answers::Dim;
+use answers::Level;
+use answers::Refusal;
+ghost use mathlib.Core.Path.{_≡_};
+ghost use mathlib.Core.Bool.{cond, not};
+ghost use Prim.Native.Nat.{suc, _≤_};
+ghost use lib.ListN.{length};
+ghost use lib.Dec.{eqb};
+ghost use Rattle.maps.specs.Mark.{isMark, stay};
+ghost use Rattle.maps.specs.Table.{entry, each, listed};
+ghost use Rattle.maps.specs.Folded.{addΛ, addΔ};
+ghost use Rattle.maps.specs.Check.{check8, checkKernel};
+ghost use Rattle.maps.specs.CheckPyramid.{checkLent, checkLeaves};
+ghost use Rattle.maps.specs.AddLevel.{addLent, addHeight, addLambda, addDelta, addLeaves};
+ghost use Rattle.facts.proofs.Adding.{Row};
+ghost use Rattle.answers.specs.Numbers.{verdictOf};
+ghost use Rattle.checking.specs.InTable.{Rows};
+ghost use Rattle.checking.specs.Ready.{Tested};
+ghost use Rattle.checking.specs.Climb.{lentSizes, stepLeaves, Base, climbs, climbLeaves, baseAndMarks};
+ghost use Rattle.checking.specs.Added.{addedOf, heightOf, addSizes, rowMarks, addMarks, ascends, ascendLeaves};
+
+// Numbers 1 to 4 of base rows, marks and a table.
+fn lent(
+    n: Dim,
+    darts: u16,
+    h: Level,
+    rows: &[u16],
+    lambda: &[u8],
+    delta: &[u8],
+    table: &[u16],
+) -> Check
+    ensures { λ r. ⌜ verdictOf r ≡ lentSizes (n .0) darts (h .0) (now (rows .entry)) (now (lambda .entry)) (now (delta .entry)) (now (table .entry)) ⌝ }
+{
+    if let Check::Refused(r) = answers::sizes(n, darts, h) {
+        return Check::Refused(r);
+    }
+    let width = darts as usize;
+    let size = (n.0 as usize + 1) * width;
+    if rows.len() != size {
+        return Check::Refused(Refusal::Length);
+    }
+    if lambda.len() != width {
+        return Check::Refused(Refusal::Length);
+    }
+    if delta.len() != width {
+        return Check::Refused(Refusal::Length);
+    }
+    if table.len() != size {
+        return Check::Refused(Refusal::Length);
+    }
+    Check::Accepted
+}
+
+// Number 8 of Λ and Δ, over darts.
+fn marks_checked(n: Dim, darts: u16, h: Level, lambda: &[u8], delta: &[u8]) -> Check
+    requires { ⌜ (length (now lambda) ≡ darts) × (length (now delta) ≡ darts) ⌝ }
+    ensures { λ r. ⌜ verdictOf r ≡ check8 (λ _ d. d) (n .0) darts (h .0) (each (now (lambda .entry))) (each (now (delta .entry))) ⌝ }
+{
+    for d in 0..darts {
+        let at = d as usize;
+        if answers::marks_refused(n, h, Level(lambda[at]), Dim(delta[at])) {
+            return Check::Refused(Refusal::Marks(Level(0), Dim(0), d));
+        }
+    }
+    Check::Accepted
+}
+
+// Numbers 5 to 8, before anything lent is written.
+fn base_and_marks(n: Dim, darts: u16, h: Level, rows: &[u16], lambda: &[u8], delta: &[u8]) -> Check
+    requires { ⌜ Rows (n .0) darts (now rows) × (length (now lambda) ≡ darts) × (length (now delta) ≡ darts) ⌝ }
+    ensures { λ r. ⌜ verdictOf r ≡ baseAndMarks (n .0) darts (h .0) (now (rows .entry)) (now (lambda .entry)) (now (delta .entry)) ⌝ }
+{
+    if let Check::Refused(r) = map_refused(false, rows, n, darts) {
+        return Check::Refused(r);
+    }
+    marks_checked(n, darts, h, lambda, delta)
+}
+
+// The base, copied into the lent table.
+fn copy(rows: &[u16], table: &mut [u16])
+    requires { ⌜ length (now table) ≡ length (now rows) ⌝ }
+    ensures { λ _. ⌜ now (table .exit) ≡ now (rows .entry) ⌝ }
+{
+    for k in 0..rows.len() {
+        table[k] = rows[k];
+    }
+}
+
+// One kernel: tested, and removed where it is accepted.
+fn step(n: Dim, darts: usize, l: Level, row: &[u8], table: &mut [u16]) -> Check
+    requires { ⌜ Tested (n .0) darts (now row) (now table) ⌝ }
+    ensures { λ r. ⌜ verdictOf r ≡ checkKernel (entry darts (now (table .entry))) (n .0) darts (each (now (row .entry))) (l .0) ⌝ }
+    ensures { λ _. ⌜ now (table .exit) ≡ stepLeaves (n .0) darts (l .0) (now (row .entry)) (now (table .entry)) ⌝ }
+{
+    if let Check::Refused(r) = whole(n, darts, l, row, table) {
+        return Check::Refused(r);
+    }
+    if let Check::Refused(r) = removable(n, darts, l, row, table) {
+        return Check::Refused(r);
+    }
+    remove(n, darts, row, table);
+    Check::Accepted
+}
+
+// Kernels are taken in rising order, each on its own level, from the base that the table holds.
+fn climb(n: Dim, darts: usize, h: Level, lambda: &[u8], delta: &[u8], table: &mut [u16]) -> Check
+    requires { ⌜ Base (n .0) darts (h .0) (now lambda) (now delta) (now table) ⌝ }
+    ensures { λ r. ⌜ verdictOf r ≡ climbs (n .0) darts (h .0) (now (lambda .entry)) (now (delta .entry)) (now (table .entry)) ⌝ }
+    ensures { λ _. ⌜ now (table .exit) ≡ climbLeaves (n .0) darts (h .0) (now (lambda .entry)) (now (delta .entry)) (now (table .entry)) ⌝ }
+{
+    let mut row = [255u8; 4096];
+    let top = h.0;
+    for l in 0..top {
+        mark_row(darts, lambda, delta, l, &mut row[..darts]);
+        if let Check::Refused(r) = step(n, darts, Level(l), &row[..darts], table) {
+            return Check::Refused(r);
+        }
+    }
+    Check::Accepted
+}
+
+// Check a whole pyramid. Accepted, the table holds the explicit level h; after 9 or 10 the level whose kernel failed.
+pub fn check(
+    n: Dim,
+    darts: u16,
+    h: Level,
+    rows: &[u16],
+    lambda: &[u8],
+    delta: &[u8],
+    table: &mut [u16],
+) -> Check
+    ensures { λ r. ⌜ verdictOf r ≡ checkLent (n .0) darts (h .0) (now (rows .entry)) (now (lambda .entry)) (now (delta .entry)) (now (table .entry)) ⌝ }
+    ensures { λ _. ⌜ now (table .exit) ≡ checkLeaves (n .0) darts (h .0) (now (rows .entry)) (now (lambda .entry)) (now (delta .entry)) (now (table .entry)) ⌝ }
+{
+    if let Check::Refused(r) = lent(n, darts, h, rows, lambda, delta, table) {
+        return Check::Refused(r);
+    }
+    if let Check::Refused(r) = base_and_marks(n, darts, h, rows, lambda, delta) {
+        return Check::Refused(r);
+    }
+    copy(rows, table);
+    climb(n, darts as usize, h, lambda, delta, table)
+}
+
+// The new height, or a refusal.
+pub enum Added {
+    Grown(Level),
+    Refused(Refusal),
+}
+
+// Numbers 1 to 4 and 20 of an add.
+fn add_lent(
+    n: Dim,
+    darts: u16,
+    h: Level,
+    rows: &[u16],
+    lambda: &[u8],
+    delta: &[u8],
+    row: &[u8],
+    table: &[u16],
+) -> Check
+    ensures { λ r. ⌜ verdictOf r ≡ addSizes (n .0) darts (h .0) (now (rows .entry)) (now (lambda .entry)) (now (delta .entry)) (now (row .entry)) (now (table .entry)) ⌝ }
+{
+    if let Check::Refused(r) = lent(n, darts, h, rows, lambda, delta, table) {
+        return Check::Refused(r);
+    }
+    if row.len() != darts as usize {
+        return Check::Refused(Refusal::Length);
+    }
+    if h.0 == 32 {
+        return Check::Refused(Refusal::Full);
+    }
+    Check::Accepted
+}
+
+// Number 8 of one mark: below n, remove; 255, stay; a dart not on level h must have 255.
+fn mark_refused(n: Dim, h: Level, lambda: Level, mark: u8) -> bool
+    ensures { λ r. ⌜ r ≡ not (cond (isMark (n .0) mark) (eqb (lambda .0) (h .0)) (eqb mark stay)) ⌝ }
+{
+    if mark < n.0 {
+        return lambda.0 != h.0;
+    }
+    mark != 255
+}
+
+// Number 8 of the mark row, over darts, with level h.
+fn row_checked(n: Dim, darts: u16, h: Level, lambda: &[u8], row: &[u8]) -> Check
+    requires { ⌜ (length (now lambda) ≡ darts) × (length (now row) ≡ darts) ⌝ }
+    ensures { λ r. ⌜ verdictOf r ≡ rowMarks (n .0) darts (h .0) (now (lambda .entry)) (now (row .entry)) ⌝ }
+{
+    for d in 0..darts {
+        let at = d as usize;
+        if mark_refused(n, h, Level(lambda[at]), row[at]) {
+            return Check::Refused(Refusal::Marks(h, Dim(0), d));
+        }
+    }
+    Check::Accepted
+}
+
+// Numbers 5 to 8 of an add: the mark row comes last.
+fn add_marked(
+    n: Dim,
+    darts: u16,
+    h: Level,
+    rows: &[u16],
+    lambda: &[u8],
+    delta: &[u8],
+    row: &[u8],
+) -> Check
+    requires { ⌜ Rows (n .0) darts (now rows) × (length (now lambda) ≡ darts) × (length (now delta) ≡ darts) × (length (now row) ≡ darts) ⌝ }
+    ensures { λ r. ⌜ verdictOf r ≡ addMarks (n .0) darts (h .0) (now (rows .entry)) (now (lambda .entry)) (now (delta .entry)) (now (row .entry)) ⌝ }
+{
+    if let Check::Refused(r) = base_and_marks(n, darts, h, rows, lambda, delta) {
+        return Check::Refused(r);
+    }
+    row_checked(n, darts, h, lambda, row)
+}
+
+// Kernels 0 to h−1, then the mark row as kernel h, from the base that the table holds.
+fn ascend(
+    n: Dim,
+    darts: usize,
+    h: Level,
+    lambda: &[u8],
+    delta: &[u8],
+    row: &[u8],
+    table: &mut [u16],
+) -> Check
+    requires { ⌜ Base (n .0) darts (h .0) (now lambda) (now delta) (now table) ⌝ }
+    requires { ⌜ (length (now row) ≡ darts) × Row (n .0) darts (h .0) (each (now lambda)) (each (now row)) ⌝ }
+    ensures { λ r. ⌜ verdictOf r ≡ ascends (n .0) darts (h .0) (now (lambda .entry)) (now (delta .entry)) (now (row .entry)) (now (table .entry)) ⌝ }
+    ensures { λ _. ⌜ now (table .exit) ≡ ascendLeaves (n .0) darts (h .0) (now (lambda .entry)) (now (delta .entry)) (now (row .entry)) (now (table .entry)) ⌝ }
+{
+    if let Check::Refused(r) = climb(n, darts, h, lambda, delta, table) {
+        return Check::Refused(r);
+    }
+    step(n, darts, h, row, table)
+}
+
+// Λ of a dart once the level is added: darts marked get the old h, the other survivors the new one.
+fn lambda_after(n: Dim, h: Level, lambda: u8, mark: u8) -> u8
+    requires { ⌜ h .0 ≤ 32 ⌝ }
+    ensures { λ r. ⌜ r ≡ cond (isMark (n .0) mark) (h .0) (cond (eqb lambda (h .0)) (suc (h .0)) lambda) ⌝ }
+{
+    if mark < n.0 {
+        return h.0;
+    }
+    if lambda == h.0 {
+        return h.0 + 1;
+    }
+    lambda
+}
+
+// Δ of a dart once the level is added: the mark, of the darts marked.
+fn delta_after(n: Dim, delta: u8, mark: u8) -> u8
+    ensures { λ r. ⌜ r ≡ cond (isMark (n .0) mark) mark delta ⌝ }
+{
+    if mark < n.0 {
+        return mark;
+    }
+    delta
+}
+
+// The mark row folded into Λ and Δ.
+fn fold_in(n: Dim, darts: usize, h: Level, row: &[u8], lambda: &mut [u8], delta: &mut [u8])
+    requires { ⌜ (h .0 ≤ 32) × (length (now row) ≡ darts) × (length (now lambda) ≡ darts) × (length (now delta) ≡ darts) ⌝ }
+    ensures { λ _. ⌜ now (lambda .exit) ≡ listed (addΛ (n .0) (h .0) (each (now (lambda .entry))) (each (now (row .entry)))) darts ⌝ }
+    ensures { λ _. ⌜ now (delta .exit) ≡ listed (addΔ (n .0) (each (now (delta .entry))) (each (now (row .entry)))) darts ⌝ }
+{
+    for d in 0..darts {
+        let mark = row[d];
+        lambda[d] = lambda_after(n, h, lambda[d], mark);
+        delta[d] = delta_after(n, delta[d], mark);
+    }
+}
+
+// Add a level. Accepted, Λ and Δ hold the new height's marks and the table the new top level; refused, Λ and Δ are as found.
+pub fn add(
+    n: Dim,
+    darts: u16,
+    h: Level,
+    rows: &[u16],
+    lambda: &mut [u8],
+    delta: &mut [u8],
+    row: &[u8],
+    table: &mut [u16],
+) -> Added
+    ensures { λ r. ⌜ addedOf r ≡ addLent (n .0) darts (h .0) (now (rows .entry)) (now (lambda .entry)) (now (delta .entry)) (now (row .entry)) (now (table .entry)) ⌝ }
+    ensures { λ r. ⌜ heightOf (h .0) r ≡ addHeight (n .0) darts (h .0) (now (rows .entry)) (now (lambda .entry)) (now (delta .entry)) (now (row .entry)) (now (table .entry)) ⌝ }
+    ensures { λ _. ⌜ now (lambda .exit) ≡ addLambda (n .0) darts (h .0) (now (rows .entry)) (now (lambda .entry)) (now (delta .entry)) (now (row .entry)) (now (table .entry)) ⌝ }
+    ensures { λ _. ⌜ now (delta .exit) ≡ addDelta (n .0) darts (h .0) (now (rows .entry)) (now (lambda .entry)) (now (delta .entry)) (now (row .entry)) (now (table .entry)) ⌝ }
+    ensures { λ _. ⌜ now (table .exit) ≡ addLeaves (n .0) darts (h .0) (now (rows .entry)) (now (lambda .entry)) (now (delta .entry)) (now (row .entry)) (now (table .entry)) ⌝ }
+{
+    if let Check::Refused(r) = add_lent(n, darts, h, rows, lambda, delta, row, table) {
+        return Added::Refused(r);
+    }
+    if let Check::Refused(r) = add_marked(n, darts, h, rows, lambda, delta, row) {
+        return Added::Refused(r);
+    }
+    copy(rows, table);
+    let width = darts as usize;
+    if let Check::Refused(r) = ascend(n, width, h, lambda, delta, row, table) {
+        return Added::Refused(r);
+    }
+    fold_in(n, width, h, row, lambda, delta);
+    Added::Grown(Level(h.0 + 1))
+}

@@ -1,0 +1,348 @@
+-- A record as it is written, with rows of two bytes an entry, and what taking it gives back. Assumes nothing.
+use mathlib.Core.Path.{_≡_, refl, sym, ap, _∙_}
+use mathlib.Core.Bool.{Bool, true, false, _&&_}
+use mathlib.Core.List.{List, [], _∷_, _++_, append-nil, append-assoc}
+use Prim.Native.Nat.{ℕ, zero, suc, _+_, _-_, _*_, _/_, _%_, _≤_, _<_}
+use native.Mathlib.Nat.{mul-le-mul-right, suc-mul, zero-mul}
+use native.Mathlib.Omega.{arith}
+use lib.ListN.{length, getD, take, drop, length-append, length-take, length-drop, List·getD-append, List·getD-eq-default}
+use lib.Seq.{getD-append-add, getD-take, getD-drop}
+use lib.Arith.{digits-div, digits-mod}
+use lib.Dec.{eqb, leb, ltb}
+use borrow.Author.Tests.{eqb-true, eqb-false, ltb-true, ltb-false, le-leb, lt-leb, le-ltb, eq-eqb}
+use Rattle.maps.specs.Verdict.{accepted}
+use Rattle.maps.specs.Sizes.{sizes, number1, number2, number3, number4}
+use Rattle.maps.specs.Record.{field, recordDimension, recordHeight, recordDarts, takeLent, takeRows, takeLambda, takeDelta}
+use Rattle.facts.proofs.Verdicts.{scan-all}
+use Rattle.facts.proofs.Tables.{place}
+use Rattle.facts.proofs.Sizes.{Sized}
+use Rattle.records.specs.Parts.{headerOf, rowField, fieldsOf, roomOf, restOf, byteFrom, tableEntry}
+use Rattle.records.proofs.Laid.{laid-all}
+use Rattle.records.proofs.Whole.{Told, lent-rest, rest-accepted}
+
+-- one-byte tag, two-byte length low byte first, body
+unfoldable pub fieldWritten : ℕ → List ℕ → List ℕ
+fieldWritten tag body = tag ∷ length body % 256 ∷ length body / 256 ∷ body
+
+-- each number in two bytes, low byte first
+unfoldable pub inTwoBytes : List ℕ → List ℕ
+inTwoBytes [] = []
+inTwoBytes (x ∷ xs) = x % 256 ∷ x / 256 ∷ inTwoBytes xs
+
+-- row i of a table of rows of N
+unfoldable pub rowOf : ℕ → List ℕ → ℕ → List ℕ
+rowOf N rows i = take N (drop (i * N) rows)
+
+-- rows 0 to m − 1 as tags 0x10 to 0x14 with 2N bytes
+unfoldable pub rowsWritten : ℕ → List ℕ → ℕ → List ℕ
+rowsWritten N rows zero = []
+rowsWritten N rows (suc m) = rowsWritten N rows m ++ fieldWritten (0x10 + m) (inTwoBytes (rowOf N rows m))
+
+-- tag 0x01: n, h, N in two bytes low first; rows 0 to n; 0x30, Λ; 0x31, Δ; end
+unfoldable pub written : ℕ → ℕ → ℕ → List ℕ → List ℕ → List ℕ → List ℕ
+written n h N rows lambda delta =
+    fieldWritten 0x01 (n ∷ h ∷ inTwoBytes (N ∷ []))
+    ++ (rowsWritten N rows (suc n) ++ (fieldWritten 0x30 lambda ++ fieldWritten 0x31 delta))
+
+length-field : (tag : ℕ) (body : List ℕ) → length (fieldWritten tag body) ≡ 3 + length body
+unfolding fieldWritten
+length-field tag body = omega arith
+
+length-two : (xs : List ℕ) → length (inTwoBytes xs) ≡ 2 * length xs
+unfolding inTwoBytes
+length-two [] = refl
+length-two (x ∷ xs) = omega (arith, length-two xs)
+
+-- the two bytes of number d
+low-two : (xs : List ℕ) (d : ℕ) → getD (inTwoBytes xs) (2 * d) 0 ≡ getD xs d 0 % 256
+unfolding inTwoBytes
+low-two [] d = refl
+low-two (x ∷ xs) zero = refl
+low-two (x ∷ xs) (suc d) = let e : 2 * suc d ≡ suc (suc (2 * d)) = omega arith in rw e (low-two xs d)
+
+high-two : (xs : List ℕ) (d : ℕ) → getD (inTwoBytes xs) (2 * d + 1) 0 ≡ getD xs d 0 / 256
+unfolding inTwoBytes
+high-two [] d = refl
+high-two (x ∷ xs) zero = refl
+high-two (x ∷ xs) (suc d) = let e : 2 * suc d + 1 ≡ suc (suc (2 * d + 1)) = omega arith in rw e (high-two xs d)
+
+-- each number of a list is below k; past its end `getD` gives 0
+abbrev pub Below : ℕ → List ℕ → Type 0
+Below k list = (x : ℕ) → getD list x 0 < k
+
+below-append : (k : ℕ) (xs ys : List ℕ) → Below k xs → Below k ys → Below k (xs ++ ys)
+below-append k xs ys f g x = go (ltb x (length xs)) refl
+  where
+    go : (b : Bool) → ltb x (length xs) ≡ b → getD (xs ++ ys) x 0 < k
+    go true q = rw (List·getD-append xs ys 0 x (ltb-true x (length xs) q)) (f x)
+    go false q =
+        let l = ltb-false x (length xs) q in
+        let e : x ≡ length xs + (x - length xs) = omega arith in
+        rw (ap (λ (y : ℕ). getD (xs ++ ys) y 0) e ∙ getD-append-add xs ys (x - length xs) 0) (g (x - length xs))
+
+below-cons : (k a : ℕ) (xs : List ℕ) → a < k → Below k xs → Below k (a ∷ xs)
+below-cons k a xs l f zero = l
+below-cons k a xs l f (suc x) = f x
+
+below-take : (k m : ℕ) (xs : List ℕ) → 0 < k → Below k xs → Below k (take m xs)
+below-take k m xs p f x = go (ltb x m) refl
+  where
+    go : (b : Bool) → ltb x m ≡ b → getD (take m xs) x 0 < k
+    go true q = rw (getD-take m xs x 0 (ltb-true x m q)) (f x)
+    go false q = let l = ltb-false x m q in let e : length (take m xs) ≤ x = simp length-take (omega arith) in rw (List·getD-eq-default (take m xs) 0 e) p
+
+below-two : (xs : List ℕ) → Below 65536 xs → Below 256 (inTwoBytes xs)
+unfolding inTwoBytes
+below-two [] f = λ x. omega arith
+below-two (a ∷ xs) f = let l = f 0 in below-cons 256 (a % 256) (a / 256 ∷ inTwoBytes xs) (omega arith) (below-cons 256 (a / 256) (inTwoBytes xs) (omega arith) (below-two xs (λ x. f (suc x))))
+
+below-field : (tag : ℕ) (body : List ℕ) → tag < 256 → length body < 65536 → Below 256 body → Below 256 (fieldWritten tag body)
+unfolding fieldWritten
+below-field tag body lt lb f =
+    below-cons 256 tag (length body % 256 ∷ length body / 256 ∷ body) lt
+    (below-cons 256 (length body % 256) (length body / 256 ∷ body) (omega arith) (below-cons 256 (length body / 256) body (omega arith) f))
+
+-- a list that has a field after what comes before it
+module _ (list before after : List ℕ) (at tag : ℕ) (body : List ℕ) (e : list ≡ before ++ (fieldWritten tag body ++ after)) (l : length before ≡ at) where
+  in-list : (k : ℕ) → getD list (at + k) 0 ≡ getD (fieldWritten tag body ++ after) k 0
+  in-list k = rw (e, ← l) (getD-append-add before (fieldWritten tag body ++ after) k 0)
+
+  list-length : length list ≡ at + (3 + length body) + length after
+  list-length = omega (arith, ap length e, length-append before (fieldWritten tag body ++ after), length-append (fieldWritten tag body) after, length-field tag body)
+
+  field-tag : getD list at 0 ≡ tag
+  unfolding fieldWritten
+  field-tag = let z : at + 0 ≡ at = omega arith in rw (sym z) (in-list 0)
+
+  field-body : (k : ℕ) → k < length body → getD list (at + 3 + k) 0 ≡ getD body k 0
+  unfolding fieldWritten
+  field-body k f = let z : at + 3 + k ≡ at + suc (suc (suc k)) = omega arith in rw z (in-list (suc (suc (suc k))) ∙ List·getD-append body after 0 k f)
+
+  field-accepted : field list at tag (length body) ≡ accepted
+  unfolding field fieldWritten
+  field-accepted =
+      let low : getD list (at + 1) 0 ≡ length body % 256 = in-list 1 in
+      let z : at + 1 + 1 ≡ at + 2 = omega arith in
+      let high : getD list (at + 1 + 1) 0 ≡ length body / 256 = rw z (in-list 2) in
+      simp (
+        lt-leb (length list) at (omega (arith, list-length)),
+        eq-eqb (getD list at 0) tag field-tag,
+        le-ltb (length list) (at + 3) (omega (arith, list-length)),
+        eq-eqb (getD list (at + 1) 0 + 256 * getD list (at + 1 + 1) 0) (length body) (omega arith),
+        le-ltb (length list) (at + 3 + length body) (omega (arith, list-length)),
+      )
+
+-- a row apart from the rows before it and what comes after it
+record Apart (N : ℕ) (rows : List ℕ) (m i : ℕ) : Type 0 where
+  after : List ℕ
+  is : rowsWritten N rows m ≡ rowsWritten N rows i ++ (fieldWritten (0x10 + i) (inTwoBytes (rowOf N rows i)) ++ after)
+
+row-apart : (N : ℕ) (rows : List ℕ) (m i : ℕ) → i < m → Apart N rows m i
+unfolding rowsWritten
+row-apart N rows zero i l = absurd (omega arith)
+row-apart N rows (suc m) i l = go (eqb i m) refl (λ k. row-apart N rows m i k)
+  where
+    one : ℕ → List ℕ
+    one k = fieldWritten (0x10 + k) (inTwoBytes (rowOf N rows k))
+
+    go : (b : Bool) → eqb i m ≡ b → (i < m → Apart N rows m i) → Apart N rows (suc m) i
+    go true q ih =
+        let e : i ≡ m = eqb-true i m q in
+        record { after = []; is = rw e (ap (λ (x : List ℕ). rowsWritten N rows m ++ x) (sym (append-nil (one m)))) }
+    go false q ih =
+        let ne : i ≡ m → ⊥ = eqb-false i m q in
+        let s = ih (omega arith) in
+        record {
+          after = s .after ++ one m;
+          is =
+              ap (λ (x : List ℕ). x ++ one m) (s .is)
+              ∙ append-assoc (rowsWritten N rows i) (one i ++ s .after) (one m)
+              ∙ ap (λ (x : List ℕ). rowsWritten N rows i ++ x) (append-assoc (one i) (s .after) (one m));
+        }
+
+module _ (n h N : ℕ) (rows lambda delta : List ℕ) (s : Sized n N h) (rows-length : length rows ≡ suc n * N) (lambda-length : length lambda ≡ N) (delta-length : length delta ≡ N) where
+  abbrev list : List ℕ
+  list = written n h N rows lambda delta
+
+  abbrev header : List ℕ
+  header = fieldWritten 0x01 (n ∷ h ∷ inTwoBytes (N ∷ []))
+
+  length-header : length header ≡ 7
+  unfolding fieldWritten inTwoBytes
+  length-header = refl
+
+  row-length : (i : ℕ) → i ≤ n → length (inTwoBytes (rowOf N rows i)) ≡ 2 * N
+  unfolding rowOf
+  row-length i l =
+      let m : suc i * N ≤ suc n * N = mul-le-mul-right N (omega arith) in
+      let k = suc-mul i N in
+      let e : length (take N (drop (i * N) rows)) ≡ N = simp (length-take, length-drop) (omega arith) in
+      length-two (take N (drop (i * N) rows)) ∙ ap (λ (x : ℕ). 2 * x) e
+
+  rows-written : (m : ℕ) → m ≤ suc n → length (rowsWritten N rows m) ≡ m * (3 + 2 * N)
+  unfolding rowsWritten
+  rows-written zero l = sym (zero-mul (3 + 2 * N))
+  rows-written (suc m) l =
+      let body = inTwoBytes (rowOf N rows m) in
+      omega (arith, length-append (rowsWritten N rows m) (fieldWritten (0x10 + m) body), length-field (0x10 + m) body, row-length m (omega arith), rows-written m (omega arith), suc-mul m (3 + 2 * N))
+
+  before-row : (i : ℕ) → i ≤ suc n → length (header ++ rowsWritten N rows i) ≡ 7 + i * (3 + 2 * N)
+  before-row i l = omega (arith, length-append header (rowsWritten N rows i), length-header, rows-written i l)
+
+  abbrev marks : List ℕ
+  marks = fieldWritten 0x30 lambda ++ fieldWritten 0x31 delta
+
+  -- where each field stands
+  after-row : (i : ℕ) → i ≤ n → Apart N rows (suc n) i
+  after-row i l = row-apart N rows (suc n) i (omega arith)
+
+  row-stands : (i : ℕ) (l : i ≤ n) → list ≡ (header ++ rowsWritten N rows i) ++ (fieldWritten (0x10 + i) (inTwoBytes (rowOf N rows i)) ++ (after-row i l .after ++ marks))
+  unfolding written
+  row-stands i l =
+      let a = after-row i l in
+      let one = fieldWritten (0x10 + i) (inTwoBytes (rowOf N rows i)) in
+      ap (λ (x : List ℕ). header ++ (x ++ marks)) (a .is)
+      ∙ ap (λ (x : List ℕ). header ++ x) (append-assoc (rowsWritten N rows i) (one ++ a .after) marks ∙ ap (λ (x : List ℕ). rowsWritten N rows i ++ x) (append-assoc one (a .after) marks))
+      ∙ sym (append-assoc header (rowsWritten N rows i) (one ++ (a .after ++ marks)))
+
+  lambda-stands : list ≡ (header ++ rowsWritten N rows (suc n)) ++ marks
+  unfolding written
+  lambda-stands = sym (append-assoc header (rowsWritten N rows (suc n)) marks)
+
+  delta-stands : list ≡ ((header ++ rowsWritten N rows (suc n)) ++ fieldWritten 0x30 lambda) ++ (fieldWritten 0x31 delta ++ [])
+  delta-stands =
+      lambda-stands
+      ∙ sym (append-assoc (header ++ rowsWritten N rows (suc n)) (fieldWritten 0x30 lambda) (fieldWritten 0x31 delta))
+      ∙ ap (λ (x : List ℕ). ((header ++ rowsWritten N rows (suc n)) ++ fieldWritten 0x30 lambda) ++ x) (sym (append-nil (fieldWritten 0x31 delta)))
+
+  abbrev lambdaFrom : ℕ
+  lambdaFrom = 7 + suc n * (3 + 2 * N)
+
+  before-lambda : length (header ++ rowsWritten N rows (suc n)) ≡ lambdaFrom
+  before-lambda = before-row (suc n) (omega arith)
+
+  before-delta : length ((header ++ rowsWritten N rows (suc n)) ++ fieldWritten 0x30 lambda) ≡ lambdaFrom + (3 + N)
+  before-delta = omega (arith, length-append (header ++ rowsWritten N rows (suc n)) (fieldWritten 0x30 lambda), before-lambda, length-field 0x30 lambda)
+
+  header-bytes : Below 256 header
+  unfolding inTwoBytes
+  header-bytes =
+      below-field 0x01 (n ∷ h ∷ N % 256 ∷ N / 256 ∷ []) (omega arith) (omega arith)
+      (below-cons 256 n (h ∷ N % 256 ∷ N / 256 ∷ []) (omega arith) (below-cons 256 h (N % 256 ∷ N / 256 ∷ []) (omega arith) (below-two (N ∷ []) (below-cons 65536 N [] (omega arith) (λ x. omega arith)))))
+
+  rows-bytes : Below 65536 rows → (m : ℕ) → m ≤ suc n → Below 256 (rowsWritten N rows m)
+  unfolding rowsWritten rowOf
+  rows-bytes f zero l = λ x. omega arith
+  rows-bytes f (suc m) l =
+      let row = take N (drop (m * N) rows) in
+      let dropped : Below 65536 (drop (m * N) rows) = λ x. rw (getD-drop (m * N) rows x 0) (f (m * N + x)) in
+      below-append 256 (rowsWritten N rows m) (fieldWritten (0x10 + m) (inTwoBytes row)) (rows-bytes f m (omega arith))
+      (below-field (0x10 + m) (inTwoBytes row) (omega arith) (omega (arith, row-length m (omega arith))) (below-two row (below-take 65536 N (drop (m * N) rows) (omega arith) dropped)))
+
+  -- the size of a record
+  pub written-length : length (written n h N rows lambda delta) ≡ 7 + suc n * (3 + 2 * N) + 2 * (3 + N)
+  written-length = omega (arith, list-length list ((header ++ rowsWritten N rows (suc n)) ++ fieldWritten 0x30 lambda) [] (lambdaFrom + (3 + N)) 0x31 delta delta-stands before-delta)
+
+  -- each of its numbers is a byte
+  pub written-bytes : Below 65536 rows → Below 256 lambda → Below 256 delta → Below 256 (written n h N rows lambda delta)
+  unfolding written
+  written-bytes fr fl fd =
+      below-append 256 header (rowsWritten N rows (suc n) ++ marks) header-bytes
+      (below-append 256 (rowsWritten N rows (suc n)) marks (rows-bytes fr (suc n) (omega arith))
+      (below-append 256 (fieldWritten 0x30 lambda) (fieldWritten 0x31 delta) (below-field 0x30 lambda (omega arith) (omega arith) fl) (below-field 0x31 delta (omega arith) (omega arith) fd)))
+
+  header-fine : field list 0 0x01 4 ≡ accepted
+  unfolding written inTwoBytes
+  header-fine = field-accepted list [] (rowsWritten N rows (suc n) ++ marks) 0 0x01 (n ∷ h ∷ inTwoBytes (N ∷ [])) refl refl
+
+  row-fine : (i : ℕ) → i ≤ n → field list (7 + i * (3 + 2 * N)) (0x10 + i) (2 * N) ≡ accepted
+  row-fine i l =
+      let f = field-accepted list (header ++ rowsWritten N rows i) (after-row i l .after ++ marks) (7 + i * (3 + 2 * N)) (0x10 + i) (inTwoBytes (rowOf N rows i)) (row-stands i l) (before-row i (omega arith)) in
+      rw (row-length i l) at f
+
+  lambda-fine : field list lambdaFrom 0x30 N ≡ accepted
+  lambda-fine = rw lambda-length at (field-accepted list (header ++ rowsWritten N rows (suc n)) (fieldWritten 0x31 delta) lambdaFrom 0x30 lambda lambda-stands before-lambda)
+
+  delta-fine : field list (lambdaFrom + (3 + N)) 0x31 N ≡ accepted
+  delta-fine = rw delta-length at (field-accepted list ((header ++ rowsWritten N rows (suc n)) ++ fieldWritten 0x30 lambda) [] (lambdaFrom + (3 + N)) 0x31 delta delta-stands before-delta)
+
+  -- what stands in the rows
+  row-value : (i d : ℕ) → i ≤ n → d < N → tableEntry list N false (i * N + d) ≡ getD rows (i * N + d) 0
+  unfolding rowOf
+  row-value i d li ld =
+      let row = take N (drop (i * N) rows) in
+      let at = 7 + i * (3 + 2 * N) in
+      let read = field-body list (header ++ rowsWritten N rows i) (after-row i li .after ++ marks) at (0x10 + i) (inTwoBytes row) (row-stands i li) (before-row i (omega arith)) in
+      let e = row-length i li in
+      let x : getD row d 0 ≡ getD rows (i * N + d) 0 = getD-take N (drop (i * N) rows) d 0 ld ∙ getD-drop (i * N) rows d 0 in
+      let low : getD list (at + 3 + 2 * d) 0 ≡ getD rows (i * N + d) 0 % 256 = read (2 * d) (omega arith) ∙ low-two row d ∙ ap (λ (y : ℕ). y % 256) x in
+      let z : at + 3 + 2 * d + 1 ≡ at + 3 + (2 * d + 1) = omega arith in
+      let high : getD list (at + 3 + 2 * d + 1) 0 ≡ getD rows (i * N + d) 0 / 256 = rw z (read (2 * d + 1) (omega arith) ∙ high-two row d ∙ ap (λ (y : ℕ). y / 256) x) in
+      rw (digits-mod i ld, digits-div i ld, low, high) (omega arith)
+
+  first-tag : getD list 7 0 ≡ 0x10
+  first-tag =
+      let l : 0 ≤ n = omega arith in
+      let at = 7 + 0 * (3 + 2 * N) in
+      let seven : 7 ≡ at = omega (arith, zero-mul (3 + 2 * N)) in
+      ap (λ (x : ℕ). getD list x 0) seven ∙ field-tag list (header ++ rowsWritten N rows 0) (after-row 0 l .after ++ marks) at 0x10 (inTwoBytes (rowOf N rows 0)) (row-stands 0 l) (before-row 0 (omega arith))
+
+  told : Told list n h N false
+  unfolding headerOf written fieldWritten inTwoBytes sizes number1 number2 number3
+  told =
+      let N′ : N ≡ recordDarts list = omega arith in
+      record {
+        header = rw (header-fine, sym N′, le-leb 1 n (s .one-dimension), le-leb n 4 (s .dimension), le-leb 1 N (s .one-dart), le-leb N 4096 (s .darts), le-ltb 32 h (s .height));
+        dimension = refl;
+        height = refl;
+        darts = N′;
+        kind = ap (λ (x : ℕ). eqb x 0x20 && leb (recordDarts list) 256) (sym first-tag);
+        sized = s;
+      }
+
+  -- what taking it into lent slices of these lengths gives
+  module _ (lentRows lentLambda lentDelta : List ℕ) (rows-lent : length lentRows ≡ suc n * N) (lambda-lent : length lentLambda ≡ N) (delta-lent : length lentDelta ≡ N) where
+    rest-fine : restOf list n N false (length lentRows) (length lentLambda) (length lentDelta) ≡ accepted
+    unfolding restOf fieldsOf roomOf number4
+    rest-fine =
+        rw (
+          scan-all (suc n) (rowField list 0x10 (2 * N)) (λ i l. row-fine i (omega arith)),
+          lambda-fine,
+          delta-fine,
+          le-ltb (lambdaFrom + (3 + N) + (3 + N)) (length list) (omega (arith, written-length)),
+          le-leb (suc n * N) (length lentRows) (omega arith),
+          le-leb N (length lentLambda) (omega arith),
+          le-leb N (length lentDelta) (omega arith),
+        )
+
+    pub record TakenBack : Type 0 where
+      pub verdict : takeLent (written n h N rows lambda delta) lentRows lentLambda lentDelta ≡ accepted
+      pub dimension : recordDimension (written n h N rows lambda delta) ≡ n
+      pub height : recordHeight (written n h N rows lambda delta) ≡ h
+      pub darts : recordDarts (written n h N rows lambda delta) ≡ N
+      pub rowsBack : takeRows (written n h N rows lambda delta) lentRows lentLambda lentDelta ≡ rows
+      pub lambdaBack : takeLambda (written n h N rows lambda delta) lentRows lentLambda lentDelta ≡ lambda
+      pub deltaBack : takeDelta (written n h N rows lambda delta) lentRows lentLambda lentDelta ≡ delta
+
+    pub round-trip : TakenBack
+    round-trip =
+        let r = rest-accepted list lentRows lentLambda lentDelta n h N false told rest-fine in
+        let inLambda = field-body list (header ++ rowsWritten N rows (suc n)) (fieldWritten 0x31 delta) lambdaFrom 0x30 lambda lambda-stands before-lambda in
+        let inDelta = field-body list ((header ++ rowsWritten N rows (suc n)) ++ fieldWritten 0x30 lambda) [] (lambdaFrom + (3 + N)) 0x31 delta delta-stands before-delta in
+        record {
+          verdict = lent-rest list lentRows lentLambda lentDelta n h N false told ∙ rest-fine;
+          dimension = sym (told .dimension);
+          height = sym (told .height);
+          darts = sym (told .darts);
+          rowsBack =
+              sym (r .1)
+              ∙ laid-all (tableEntry list N false) (suc n * N) lentRows rows rows-lent rows-length (λ x l.
+              let p = place n N x l in
+              ap (λ (y : ℕ). getD rows y 0) (sym (p .2)) ∙ sym (row-value (x / N) (x % N) (p .0) (p .1)) ∙ ap (tableEntry list N false) (p .2));
+          lambdaBack = sym (r .2) ∙ laid-all (byteFrom list (lambdaFrom + 3)) N lentLambda lambda lambda-lent lambda-length (λ x l. sym (inLambda x (omega arith)));
+          deltaBack = sym (r .3) ∙ laid-all (byteFrom list (lambdaFrom + (3 + N) + 3)) N lentDelta delta delta-lent delta-length (λ x l. sym (inDelta x (omega arith)));
+        }
+
+-- largest record: 49,180 bytes
+pub largest : (h : ℕ) (rows lambda delta : List ℕ) → h ≤ 32 → length rows ≡ 20480 → length lambda ≡ 4096 → length delta ≡ 4096 → length (written 4 h 4096 rows lambda delta) ≡ 49180
+largest h rows lambda delta l = written-length 4 h 4096 rows lambda delta (record { one-dimension = omega arith; dimension = omega arith; one-dart = omega arith; darts = omega arith; height = l })
