@@ -1,5 +1,5 @@
 // Takes a record from standard input, checks it, unfolds each level and prints: n, N, h; then for each level its number, survivors and total count.
-// It keeps 161,280 bytes: the input, rows, a table, Λ, Δ and survivor words. Assumes the contracts of read and write.
+// It keeps 156,160 bytes: the input (65,536), rows and a table (40,960 each), Λ and Δ (4,096 each) and survivor words (512). Assumes the contracts of read and write.
 use answers::Check;
 use answers::Dim;
 use answers::Level;

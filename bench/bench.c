@@ -1,0 +1,188 @@
+/* Runs one job of one implementation on one map, a given number of times, for the instructions to be counted. */
+#include "maps.h"
+#include "plain.h"
+
+#include <stdio.h>
+#include <stdlib.h>
+#include <string.h>
+
+struct implementation {
+    const char *name;
+    __typeof__(&plain_check) check;
+    __typeof__(&plain_add) add;
+    __typeof__(&plain_unfold) unfold;
+    __typeof__(&plain_read) read, read_by_levels;
+    __typeof__(&plain_mark) mark;
+    __typeof__(&plain_take) take;
+    __typeof__(&plain_survivors) survivors;
+};
+
+static const struct implementation implementations[] = {
+    {"library", zg_check, zg_add, zg_unfold, zg_read, zg_read_by_levels, zg_mark, zg_take, zg_survivors},
+    {"c", plain_check, plain_add, plain_unfold, plain_read, plain_read_by_levels, plain_mark, plain_take,
+     plain_survivors},
+    {"skipping", plain_check, plain_add, plain_unfold, plain_read, plain_read_by_levels_skipping, plain_mark,
+     plain_take, plain_survivors},
+};
+
+/* All that is lent. It is written once before anything is counted, so no page is touched for the first time then. */
+static struct pyramid map, lower, taken;
+static uint16_t table[MOST_ENTRIES], top[MOST_ENTRIES];
+static uint8_t marks[MOST_DARTS], kernel[MOST_DARTS], record[MOST_BYTES];
+static uint8_t lambda[MOST_DARTS], delta[MOST_DARTS];
+static uint64_t words[64];
+static unsigned record_len;
+static size_t len; /* of rows and tables */
+
+static volatile unsigned reads, refusals;
+
+#define PYRAMID map.n, map.darts, map.h, map.rows, len, map.lambda, map.darts, map.delta, map.darts
+
+/* ---------------------------------------------------------------- the jobs */
+
+static void run_check(const struct implementation *by)
+{
+    refusals += by->check(PYRAMID, table, len).number;
+}
+
+/* The top level, added to the pyramid without it. */
+static void run_add(const struct implementation *by)
+{
+    refusals += by->add(lower.n, lower.darts, lower.h, lower.rows, len, lower.lambda, lower.darts, lower.delta,
+                        lower.darts, kernel, lower.darts, table, len)
+                    .number;
+}
+
+/* Every level. */
+static void run_unfold(const struct implementation *by)
+{
+    for (unsigned l = 0; l <= map.h; l++) {
+        zg_count r = by->unfold(PYRAMID, (uint8_t)l, table, len);
+        refusals += r.number;
+        reads += r.count;
+    }
+}
+
+/* Every seventh dart of every level, by every involution. */
+static void run_readings(__typeof__(&plain_read) reading)
+{
+    for (unsigned l = 0; l <= map.h; l++)
+        for (unsigned i = 0; i <= map.n; i++)
+            for (unsigned d = (l + i) % 7; d < map.darts; d += 7)
+                if (map.lambda[d] >= l) {
+                    zg_reading r = reading(PYRAMID, (uint8_t)l, (uint8_t)i, (uint16_t)d);
+                    refusals += r.number;
+                    reads += r.count;
+                }
+}
+
+static void run_read(const struct implementation *by) { run_readings(by->read); }
+static void run_by_levels(const struct implementation *by) { run_readings(by->read_by_levels); }
+
+/* Every dimension, on the base and on the top level. */
+static void run_mark(const struct implementation *by)
+{
+    for (unsigned dimension = 0; dimension < map.n; dimension++) {
+        refusals += by->mark(map.n, map.darts, map.rows, len, (uint8_t)dimension, marks, map.darts).number;
+        refusals += by->mark(map.n, map.darts, top, len, (uint8_t)dimension, marks, map.darts).number;
+    }
+}
+
+static void run_take(const struct implementation *by)
+{
+    refusals += by->take(record, record_len, taken.rows, MOST_ENTRIES, taken.lambda, MOST_DARTS, taken.delta,
+                         MOST_DARTS)
+                    .number;
+}
+
+/* Every level. */
+static void run_survivors(const struct implementation *by)
+{
+    for (unsigned l = 0; l <= map.h; l++)
+        refusals += by->survivors(map.darts, map.h, map.lambda, map.darts, (uint8_t)l, words, 64).number;
+}
+
+struct job {
+    const char *name;
+    void (*run)(const struct implementation *);
+};
+
+static const struct job jobs[] = {
+    {"check", run_check}, {"add", run_add},   {"unfold", run_unfold}, {"read", run_read}, {"bylevels", run_by_levels},
+    {"mark", run_mark},   {"take", run_take}, {"survivors", run_survivors},
+};
+
+/* ---------------------------------------------------------------- */
+
+/* The pyramid without its top level, and that level's kernel. */
+static void split_top(void)
+{
+    lower = map;
+    lower.h--;
+    for (unsigned d = 0; d < map.darts; d++) {
+        kernel[d] = lower.lambda[d] == lower.h ? lower.delta[d] : STAY;
+        if (lower.lambda[d] >= lower.h) {
+            lower.lambda[d] = lower.h;
+            lower.delta[d] = lower.n;
+        }
+    }
+    memcpy(lambda, lower.lambda, sizeof lambda);
+    memcpy(delta, lower.delta, sizeof delta);
+}
+
+static void set_up(const char *name)
+{
+    if (!make_pyramid(&map, name)) {
+        fprintf(stderr, "no such map: %s\n", name);
+        exit(2);
+    }
+    len = (size_t)(map.n + 1) * map.darts;
+    split_top();
+    record_len = write_record(&map, record);
+    refusals += plain_unfold(PYRAMID, map.h, top, len).number;
+    memset(table, 0, sizeof table);
+    memset(marks, 0, sizeof marks);
+    memset(&taken, 0, sizeof taken);
+    memset(words, 0, sizeof words);
+}
+
+static const struct implementation *implementation_named(const char *name)
+{
+    for (size_t k = 0; k < sizeof implementations / sizeof *implementations; k++)
+        if (!strcmp(implementations[k].name, name))
+            return implementations + k;
+    return NULL;
+}
+
+static const struct job *job_named(const char *name)
+{
+    for (size_t k = 0; k < sizeof jobs / sizeof *jobs; k++)
+        if (!strcmp(jobs[k].name, name))
+            return jobs + k;
+    return NULL;
+}
+
+int main(int argc, char **argv)
+{
+    const struct implementation *by = argc == 5 ? implementation_named(argv[1]) : NULL;
+    const struct job *job = argc == 5 ? job_named(argv[2]) : NULL;
+    if (!by || !job) {
+        fprintf(stderr, "bench library|c|skipping JOB MAP REPEAT\n");
+        return 2;
+    }
+    set_up(argv[3]);
+    /* The base reads of one run are found by running C once; they are 0 for jobs that have no count. */
+    job->run(implementation_named("c"));
+    memcpy(lower.lambda, lambda, sizeof lambda);
+    memcpy(lower.delta, delta, sizeof delta);
+    printf("%u %u %u %u\n", map.n, map.darts, map.h, reads);
+    fflush(stdout);
+    for (unsigned k = (unsigned)atoi(argv[4]); k > 0; k--) {
+        job->run(by);
+        if (k > 1) {
+            memcpy(lower.lambda, lambda, sizeof lambda);
+            memcpy(lower.delta, delta, sizeof delta);
+        }
+    }
+    return refusals ? 3 : 0;
+}

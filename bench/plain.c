@@ -1,0 +1,681 @@
+/* The jobs in plain C, written for speed: no intrinsics, no check beyond document 01's.
+ *
+ * What is done for speed: numbers 5 (of a base) and 8 are first tested without a branch for each entry, which the
+ * compiler turns into vector code, and the place is sought only if there is one; a pyramid's darts are sorted by kernel
+ * once, so that a level costs what it removes; a removal starts from the removed darts, in place. */
+#include "plain.h"
+
+#include <stdbool.h>
+#include <string.h>
+
+enum { MOST_DARTS = 4096, NONE = 65535, STAY = 255 };
+
+#define RESULT(type, ...) ((type){__VA_ARGS__})
+#define UNLIKELY(x) __builtin_expect(x, 0)
+
+/* Number 1, 2 or 3, or 0. */
+static unsigned bad_size(unsigned n, unsigned darts, unsigned h)
+{
+    if (n - 1 > 3)
+        return 1;
+    if (darts - 1 > MOST_DARTS - 1)
+        return 2;
+    return h > 32 ? 3 : 0;
+}
+
+/* ---------------------------------------------------------------- numbers 5 to 8 */
+
+static zg_refusal find_bad_neighbour(unsigned n, unsigned darts, const uint16_t *rows)
+{
+    for (unsigned i = 0; i <= n; i++)
+        for (unsigned d = 0; d < darts; d++)
+            if (rows[i * darts + d] >= darts)
+                return RESULT(zg_refusal, 5, 0, i, d);
+    return RESULT(zg_refusal, 0);
+}
+
+/* The largest entry first, without a branch for each: the place is sought only if there is one. */
+static bool all_below(const uint16_t *rows, size_t len, unsigned darts)
+{
+    uint16_t most = 0;
+    for (size_t k = 0; k < len; k++)
+        most = rows[k] > most ? rows[k] : most;
+    return most < darts;
+}
+
+static zg_refusal check_rows(unsigned n, unsigned darts, const uint16_t *rows)
+{
+    if (!all_below(rows, (size_t)(n + 1) * darts, darts))
+        return find_bad_neighbour(n, darts, rows);
+    for (unsigned i = 0; i <= n; i++) {
+        const uint16_t *a = rows + i * darts;
+        for (unsigned d = 0; d < darts; d++)
+            if (a[a[d]] != d)
+                return RESULT(zg_refusal, 6, 0, i, d);
+    }
+    for (unsigned i = 0; i + 2 <= n; i++)
+        for (unsigned j = i + 2; j <= n; j++) {
+            const uint16_t *a = rows + i * darts, *b = rows + j * darts;
+            for (unsigned d = 0; d < darts; d++)
+                if (b[a[d]] != a[b[d]])
+                    return RESULT(zg_refusal, 7, 0, i, d);
+        }
+    return RESULT(zg_refusal, 0);
+}
+
+static bool marks_fit(unsigned n, unsigned h, uint8_t lambda, uint8_t delta)
+{
+    return (lambda < h && delta < n) || (lambda == h && delta == n);
+}
+
+/* The first dart with marks that don't fit, or darts; again the place is sought only if there is one. */
+static unsigned first_unfit(unsigned n, unsigned darts, unsigned h, const uint8_t *lambda, const uint8_t *delta)
+{
+    uint8_t top = (uint8_t)h, dimension = (uint8_t)n, bad = 0;
+    for (unsigned d = 0; d < darts; d++) {
+        uint8_t removed = (uint8_t)((lambda[d] < top) & (delta[d] < dimension));
+        uint8_t stays = (uint8_t)((lambda[d] == top) & (delta[d] == dimension));
+        bad |= (uint8_t)((removed | stays) ^ 1);
+    }
+    unsigned d = bad ? 0 : darts;
+    while (d < darts && marks_fit(n, h, lambda[d], delta[d]))
+        d++;
+    return d;
+}
+
+/* ---------------------------------------------------------------- kernels */
+
+/* Lambda and Delta of a dart in one number: equal for two darts of one kernel and dimension. */
+static void join_marks(unsigned darts, const uint8_t *lambda, const uint8_t *delta, uint16_t *mark)
+{
+    for (unsigned d = 0; d < darts; d++)
+        mark[d] = (uint16_t)(lambda[d] << 8 | delta[d]);
+}
+
+/* The darts by kernel, rising in each: kernel k holds order[start[k]] to order[start[k + 1] - 1]. */
+static void sort_by_kernel(unsigned darts, const uint16_t *mark, uint16_t *order, unsigned *start)
+{
+    unsigned next[35] = {0};
+    for (unsigned d = 0; d < darts; d++)
+        next[(mark[d] >> 8) + 1]++;
+    for (unsigned k = 1; k < 35; k++)
+        next[k] += next[k - 1];
+    memcpy(start, next, sizeof next);
+    for (unsigned d = 0; d < darts; d++)
+        order[next[mark[d] >> 8]++] = (uint16_t)d;
+}
+
+static zg_refusal check_kernel(unsigned n, unsigned darts, unsigned level, const uint16_t *table, const uint16_t *mark,
+                               const uint16_t *kernel, unsigned size)
+{
+    for (unsigned k = 0; k < size; k++) {
+        unsigned d = kernel[k];
+        uint16_t own = mark[d];
+        const uint16_t *to = table + d;
+        for (unsigned j = 0; j <= n; j++, to += darts)
+            if (UNLIKELY(mark[*to] != own) && j != (own & 255))
+                return RESULT(zg_refusal, 9, level, j, d);
+    }
+    for (unsigned k = 0; k < size; k++) {
+        unsigned d = kernel[k], delta = mark[d] & 255;
+        if (delta + 2 > n)
+            continue;
+        const uint16_t *a = table + (delta + 1) * darts, *b = a + darts;
+        if (b[a[d]] != a[b[d]])
+            return RESULT(zg_refusal, 10, level, delta + 1, d);
+    }
+    return RESULT(zg_refusal, 0);
+}
+
+/* Walks run over entries of removed darts alone, so the survivors' entries can be set in place; those of removed darts
+ * go when all walks have ended. */
+static void remove_kernel(unsigned n, unsigned darts, uint16_t *table, const uint16_t *mark, const uint16_t *kernel,
+                          unsigned size)
+{
+    for (unsigned k = 0; k < size; k++) {
+        unsigned d = kernel[k];
+        uint16_t own = mark[d];
+        uint16_t *a = table + (own & 255) * darts, *b = a + darts;
+        unsigned survivor = a[d];
+        if (mark[survivor] == own)
+            continue;
+        unsigned met = d;
+        do
+            met = a[b[met]];
+        while (mark[met] == own);
+        a[survivor] = (uint16_t)met;
+    }
+    for (unsigned i = 0; i <= n; i++)
+        for (unsigned k = 0; k < size; k++)
+            table[i * darts + kernel[k]] = NONE;
+}
+
+/* Takes kernels 0 to h-1 in the table, which holds the base. */
+static zg_refusal climb(unsigned n, unsigned darts, unsigned h, const uint16_t *mark, uint16_t *table)
+{
+    uint16_t order[MOST_DARTS];
+    unsigned start[35];
+    sort_by_kernel(darts, mark, order, start);
+    for (unsigned k = 0; k < h; k++) {
+        const uint16_t *kernel = order + start[k];
+        unsigned size = start[k + 1] - start[k];
+        zg_refusal r = check_kernel(n, darts, k, table, mark, kernel, size);
+        if (r.number)
+            return r;
+        remove_kernel(n, darts, table, mark, kernel, size);
+    }
+    return RESULT(zg_refusal, 0);
+}
+
+/* ---------------------------------------------------------------- check and add */
+
+zg_refusal plain_check_base(uint8_t n, uint16_t darts, const uint16_t *rows, size_t rows_len)
+{
+    unsigned bad = bad_size(n, darts, 0);
+    if (bad)
+        return RESULT(zg_refusal, bad);
+    if (rows_len != (size_t)(n + 1) * darts)
+        return RESULT(zg_refusal, 4);
+    return check_rows(n, darts, rows);
+}
+
+zg_refusal plain_check(uint8_t n, uint16_t darts, uint8_t h, const uint16_t *rows, size_t rows_len,
+                       const uint8_t *lambda, size_t lambda_len, const uint8_t *delta, size_t delta_len,
+                       uint16_t *table, size_t table_len)
+{
+    unsigned bad = bad_size(n, darts, h);
+    if (bad)
+        return RESULT(zg_refusal, bad);
+    size_t len = (size_t)(n + 1) * darts;
+    if (rows_len != len || lambda_len != darts || delta_len != darts || table_len != len)
+        return RESULT(zg_refusal, 4);
+    zg_refusal r = check_rows(n, darts, rows);
+    if (r.number)
+        return r;
+    unsigned unfit = first_unfit(n, darts, h, lambda, delta);
+    if (unfit < darts)
+        return RESULT(zg_refusal, 8, 0, 0, unfit);
+    uint16_t mark[MOST_DARTS];
+    memcpy(table, rows, len * sizeof *rows);
+    join_marks(darts, lambda, delta, mark);
+    return climb(n, darts, h, mark, table);
+}
+
+static unsigned first_bad_mark(unsigned n, unsigned darts, unsigned h, const uint8_t *lambda, const uint8_t *marks)
+{
+    unsigned d = 0;
+    while (d < darts && (marks[d] == STAY || (marks[d] < n && lambda[d] == h)))
+        d++;
+    return d;
+}
+
+static void raise_marks(unsigned darts, unsigned h, const uint8_t *marks, uint8_t *lambda, uint8_t *delta)
+{
+    for (unsigned d = 0; d < darts; d++) {
+        bool stays = marks[d] == STAY;
+        delta[d] = stays ? delta[d] : marks[d];
+        lambda[d] = (uint8_t)(lambda[d] + (stays & (lambda[d] == h)));
+    }
+}
+
+zg_height plain_add(uint8_t n, uint16_t darts, uint8_t h, const uint16_t *rows, size_t rows_len, uint8_t *lambda,
+                    size_t lambda_len, uint8_t *delta, size_t delta_len, const uint8_t *marks, size_t marks_len,
+                    uint16_t *table, size_t table_len)
+{
+    unsigned bad = bad_size(n, darts, h);
+    if (bad)
+        return RESULT(zg_height, bad, .height = h);
+    size_t len = (size_t)(n + 1) * darts;
+    if (rows_len != len || lambda_len != darts || delta_len != darts || marks_len != darts || table_len != len)
+        return RESULT(zg_height, 4, .height = h);
+    if (h == 32)
+        return RESULT(zg_height, 20, .height = h);
+    zg_refusal r = check_rows(n, darts, rows);
+    if (r.number)
+        return RESULT(zg_height, r.number, r.level, r.involution, r.dart, h);
+    unsigned unfit = first_unfit(n, darts, h, lambda, delta);
+    if (unfit < darts)
+        return RESULT(zg_height, 8, 0, 0, unfit, h);
+    unsigned wrong = first_bad_mark(n, darts, h, lambda, marks);
+    if (wrong < darts)
+        return RESULT(zg_height, 8, h, 0, wrong, h);
+    uint8_t new_lambda[MOST_DARTS], new_delta[MOST_DARTS];
+    uint16_t mark[MOST_DARTS];
+    memcpy(new_lambda, lambda, darts);
+    memcpy(new_delta, delta, darts);
+    raise_marks(darts, h, marks, new_lambda, new_delta);
+    join_marks(darts, new_lambda, new_delta, mark);
+    memcpy(table, rows, len * sizeof *rows);
+    r = climb(n, darts, h + 1u, mark, table);
+    if (r.number)
+        return RESULT(zg_height, r.number, r.level, r.involution, r.dart, h);
+    memcpy(lambda, new_lambda, darts);
+    memcpy(delta, new_delta, darts);
+    return RESULT(zg_height, .height = (uint8_t)(h + 1));
+}
+
+zg_refusal plain_marks(uint8_t n, uint16_t darts, uint8_t h, const uint8_t *lambda, size_t lambda_len,
+                       const uint8_t *delta, size_t delta_len, uint8_t level, uint8_t *marks, size_t marks_len)
+{
+    unsigned bad = bad_size(n, darts, h);
+    if (bad)
+        return RESULT(zg_refusal, bad);
+    if (lambda_len != darts || delta_len != darts || marks_len != darts)
+        return RESULT(zg_refusal, 4);
+    if (level > h)
+        return RESULT(zg_refusal, 11, level);
+    unsigned unfit = first_unfit(n, darts, h, lambda, delta);
+    if (unfit < darts)
+        return RESULT(zg_refusal, 8, level, 0, unfit);
+    for (unsigned d = 0; d < darts; d++)
+        marks[d] = lambda[d] == level && level < h ? delta[d] : STAY;
+    return RESULT(zg_refusal, 0);
+}
+
+/* ---------------------------------------------------------------- readings */
+
+/* Number 1, 2, 3, 4, 11, 13, 12 or 8 before a walk, or 0. */
+static unsigned bad_question(unsigned n, unsigned darts, unsigned h, size_t rows_len, const uint8_t *lambda,
+                             size_t lambda_len, const uint8_t *delta, size_t delta_len, unsigned level,
+                             unsigned involution, unsigned dart)
+{
+    unsigned bad = bad_size(n, darts, h);
+    if (bad)
+        return bad;
+    if (rows_len != (size_t)(n + 1) * darts || lambda_len != darts || delta_len != darts)
+        return 4;
+    if (level > h)
+        return 11;
+    if (involution > n)
+        return 13;
+    if (dart >= darts)
+        return 12;
+    if (!marks_fit(n, h, lambda[dart], delta[dart]))
+        return 8;
+    return lambda[dart] < level ? 12 : 0;
+}
+
+static zg_reading refuse_question(unsigned number, unsigned level, unsigned involution, unsigned dart)
+{
+    if (number <= 4)
+        return RESULT(zg_reading, number);
+    return RESULT(zg_reading, number, level, involution, dart);
+}
+
+zg_reading plain_read(uint8_t n, uint16_t darts, uint8_t h, const uint16_t *rows, size_t rows_len,
+                      const uint8_t *lambda, size_t lambda_len, const uint8_t *delta, size_t delta_len, uint8_t level,
+                      uint8_t involution, uint16_t dart)
+{
+    unsigned bad = bad_question(n, darts, h, rows_len, lambda, lambda_len, delta, delta_len, level, involution, dart);
+    if (bad)
+        return refuse_question(bad, level, involution, dart);
+    unsigned t = involution, at = dart, most = 1 + 2u * darts;
+    const uint16_t *row = rows + t * darts;
+    for (unsigned reads = 1;; reads++) {
+        if (reads > most)
+            return RESULT(zg_reading, 15, level, involution, dart);
+        unsigned met = row[at];
+        if (met >= darts)
+            return RESULT(zg_reading, 5, level, t, at);
+        if (!marks_fit(n, h, lambda[met], delta[met]))
+            return RESULT(zg_reading, 8, level, t, met);
+        if (lambda[met] >= level)
+            return RESULT(zg_reading, .count = reads, .neighbour = (uint16_t)met);
+        if (delta[met] == t) {
+            t++;
+            row += darts;
+        } else if (delta[met] + 1u == t) {
+            t--;
+            row -= darts;
+        } else
+            return RESULT(zg_reading, 14, level, t, met);
+        at = met;
+    }
+}
+
+/* What a reading by levels keeps in all its depths. */
+struct question {
+    const uint16_t *rows;
+    const uint8_t *lambda, *delta;
+    unsigned n, darts, h, level, involution, dart;
+    unsigned reads, last_row;
+    zg_reading refused;
+};
+
+/* A base entry, or NONE if the reading is refused. */
+static unsigned read_base(struct question *q, unsigned i, unsigned from)
+{
+    if (q->reads > 2 * q->darts) {
+        q->refused = RESULT(zg_reading, 15, q->level, q->involution, q->dart);
+        return NONE;
+    }
+    q->reads++;
+    q->last_row = i;
+    unsigned met = q->rows[i * q->darts + from];
+    if (met >= q->darts) {
+        q->refused = RESULT(zg_reading, 5, q->level, i, from);
+        return NONE;
+    }
+    if (!marks_fit(q->n, q->h, q->lambda[met], q->delta[met])) {
+        q->refused = RESULT(zg_reading, 8, q->level, i, met);
+        return NONE;
+    }
+    return met;
+}
+
+static unsigned cannot_pass(struct question *q, unsigned met)
+{
+    q->refused = RESULT(zg_reading, 14, q->level, q->last_row, met);
+    return NONE;
+}
+
+/* The neighbour on level l by a walk over level l-1; each step is a reading one level lower. */
+static unsigned read_level(struct question *q, unsigned l, unsigned i, unsigned from)
+{
+    if (l == 0)
+        return read_base(q, i, from);
+    unsigned met = read_level(q, l - 1, i, from);
+    while (met != NONE && q->lambda[met] < l) {
+        if (q->lambda[met] != l - 1 || q->delta[met] != i)
+            return cannot_pass(q, met);
+        met = read_level(q, l - 1, i + 1, met);
+        if (met == NONE)
+            return NONE;
+        if (q->lambda[met] != l - 1 || q->delta[met] != i)
+            return cannot_pass(q, met);
+        met = read_level(q, l - 1, i, met);
+    }
+    return met;
+}
+
+/* The same: a dart with Lambda k is met unchanged on every level up to k, so the walk begins on level k + 1. */
+static unsigned read_level_skipping(struct question *q, unsigned l, unsigned i, unsigned from)
+{
+    unsigned met = read_base(q, i, from);
+    while (met != NONE && q->lambda[met] < l) {
+        unsigned k = q->lambda[met];
+        if (q->delta[met] != i)
+            return cannot_pass(q, met);
+        met = read_level_skipping(q, k, i + 1, met);
+        if (met == NONE)
+            return NONE;
+        if (q->lambda[met] != k || q->delta[met] != i)
+            return cannot_pass(q, met);
+        met = read_level_skipping(q, k, i, met);
+    }
+    return met;
+}
+
+typedef unsigned level_reader(struct question *, unsigned l, unsigned i, unsigned from);
+
+static zg_reading read_by(level_reader *reader, uint8_t n, uint16_t darts, uint8_t h, const uint16_t *rows,
+                          size_t rows_len, const uint8_t *lambda, size_t lambda_len, const uint8_t *delta,
+                          size_t delta_len, uint8_t level, uint8_t involution, uint16_t dart)
+{
+    unsigned bad = bad_question(n, darts, h, rows_len, lambda, lambda_len, delta, delta_len, level, involution, dart);
+    if (bad)
+        return refuse_question(bad, level, involution, dart);
+    struct question q = {rows, lambda, delta, n, darts, h, level, involution, dart, 0, 0, {0}};
+    unsigned met = reader(&q, level, involution, dart);
+    if (met == NONE)
+        return q.refused;
+    return RESULT(zg_reading, .count = q.reads, .neighbour = (uint16_t)met);
+}
+
+zg_reading plain_read_by_levels(uint8_t n, uint16_t darts, uint8_t h, const uint16_t *rows, size_t rows_len,
+                                const uint8_t *lambda, size_t lambda_len, const uint8_t *delta, size_t delta_len,
+                                uint8_t level, uint8_t involution, uint16_t dart)
+{
+    return read_by(read_level, n, darts, h, rows, rows_len, lambda, lambda_len, delta, delta_len, level, involution,
+                   dart);
+}
+
+zg_reading plain_read_by_levels_skipping(uint8_t n, uint16_t darts, uint8_t h, const uint16_t *rows, size_t rows_len,
+                                         const uint8_t *lambda, size_t lambda_len, const uint8_t *delta,
+                                         size_t delta_len, uint8_t level, uint8_t involution, uint16_t dart)
+{
+    return read_by(read_level_skipping, n, darts, h, rows, rows_len, lambda, lambda_len, delta, delta_len, level,
+                   involution, dart);
+}
+
+/* ---------------------------------------------------------------- whole levels */
+
+/* Apart from the tests before it, so that its loops have the registers to themselves. */
+__attribute__((noinline)) static zg_count unfold_rows(unsigned n, unsigned darts, const uint16_t *rows,
+                                                      const uint8_t *lambda, const uint8_t *delta, uint8_t level,
+                                                      uint16_t *table)
+{
+    unsigned total = 0;
+    for (unsigned i = 0; i <= n; i++, rows += darts, table += darts)
+        for (unsigned d = 0; d < darts; d++) {
+            unsigned met = NONE;
+            if (lambda[d] >= level) {
+                met = rows[d];
+                total++;
+                if (met >= darts)
+                    return RESULT(zg_count, 5, level, i, d);
+                if (lambda[met] < level) {
+                    const uint16_t *row = rows;
+                    unsigned t = i, left = 2 * darts;
+                    do {
+                        unsigned from = met;
+                        if (delta[from] == t) {
+                            t++;
+                            row += darts;
+                        } else if (delta[from] + 1u == t) {
+                            t--;
+                            row -= darts;
+                        } else
+                            return RESULT(zg_count, 14, level, t, met);
+                        if (left-- == 0)
+                            return RESULT(zg_count, 15, level, i, d);
+                        met = row[from];
+                        total++;
+                        if (met >= darts)
+                            return RESULT(zg_count, 5, level, t, from);
+                    } while (lambda[met] < level);
+                }
+            }
+            table[d] = (uint16_t)met;
+        }
+    return RESULT(zg_count, .count = total);
+}
+
+zg_count plain_unfold(uint8_t n, uint16_t darts, uint8_t h, const uint16_t *rows, size_t rows_len,
+                      const uint8_t *lambda, size_t lambda_len, const uint8_t *delta, size_t delta_len, uint8_t level,
+                      uint16_t *table, size_t table_len)
+{
+    unsigned bad = bad_size(n, darts, h);
+    if (bad)
+        return RESULT(zg_count, bad);
+    size_t len = (size_t)(n + 1) * darts;
+    if (rows_len != len || lambda_len != darts || delta_len != darts || table_len != len)
+        return RESULT(zg_count, 4);
+    if (level > h)
+        return RESULT(zg_count, 11, level);
+    unsigned unfit = first_unfit(n, darts, h, lambda, delta);
+    if (unfit < darts)
+        return RESULT(zg_count, 8, level, 0, unfit);
+    zg_count r = unfold_rows(n, darts, rows, lambda, delta, level, table);
+    if (r.number)
+        memset(table, 0xFF, len * sizeof *table);
+    return r;
+}
+
+zg_part plain_row(uint8_t n, uint16_t darts, uint8_t h, const uint16_t *base, size_t base_len,
+                  const uint16_t *unfolded, size_t unfolded_len, uint8_t level, uint8_t involution)
+{
+    (void)base, (void)unfolded;
+    unsigned bad = bad_size(n, darts, h);
+    if (bad)
+        return RESULT(zg_part, bad);
+    size_t len = (size_t)(n + 1) * darts;
+    if (base_len != len || unfolded_len != len)
+        return RESULT(zg_part, 4);
+    if (level > h)
+        return RESULT(zg_part, 11, level, involution);
+    if (involution > n)
+        return RESULT(zg_part, 13, level, involution);
+    return RESULT(zg_part, .unfolded = level > 0, .start = (uint16_t)(involution * darts), .length = darts);
+}
+
+zg_count plain_survivors(uint16_t darts, uint8_t h, const uint8_t *lambda, size_t lambda_len, uint8_t level,
+                         uint64_t *words, size_t words_len)
+{
+    unsigned bad = bad_size(1, darts, h);
+    if (bad)
+        return RESULT(zg_count, bad);
+    if (lambda_len != darts || words_len != 64)
+        return RESULT(zg_count, 4);
+    if (level > h)
+        return RESULT(zg_count, 11, level);
+    uint8_t most = 0;
+    for (unsigned d = 0; d < darts; d++)
+        most = lambda[d] > most ? lambda[d] : most;
+    for (unsigned d = 0; most > h; d++)
+        if (lambda[d] > h)
+            return RESULT(zg_count, 8, level, 0, d);
+    unsigned count = 0;
+    for (unsigned d = 0; d < darts; d++)
+        count += lambda[d] >= level;
+    for (unsigned w = 0; w < 64; w++) {
+        unsigned first = 64 * w, end = first + 64 < darts ? first + 64 : darts;
+        uint64_t word = 0;
+        for (unsigned d = end; d > first; d--)
+            word = 2 * word + (lambda[d - 1] >= level);
+        words[w] = word;
+    }
+    return RESULT(zg_count, .count = count);
+}
+
+/* ---------------------------------------------------------------- marking */
+
+static zg_refusal check_level(unsigned n, unsigned darts, const uint16_t *table)
+{
+    for (unsigned i = 0; i <= n; i++) {
+        const uint16_t *a = table + i * darts;
+        for (unsigned d = 0; d < darts; d++)
+            if (table[d] == NONE ? a[d] != NONE : a[d] >= darts || table[a[d]] == NONE)
+                return RESULT(zg_refusal, 5, 0, i, d);
+    }
+    for (unsigned i = 0; i <= n; i++) {
+        const uint16_t *a = table + i * darts;
+        for (unsigned d = 0; d < darts; d++)
+            if (a[d] != NONE && a[a[d]] != d)
+                return RESULT(zg_refusal, 6, 0, i, d);
+    }
+    for (unsigned i = 0; i + 2 <= n; i++)
+        for (unsigned j = i + 2; j <= n; j++) {
+            const uint16_t *a = table + i * darts, *b = table + j * darts;
+            for (unsigned d = 0; d < darts; d++)
+                if (a[d] != NONE && b[a[d]] != a[b[d]])
+                    return RESULT(zg_refusal, 7, 0, i, d);
+        }
+    return RESULT(zg_refusal, 0);
+}
+
+/* Takes the marks off all that hangs together in the cell with a dart that fails. */
+static void unmark_cell(unsigned n, unsigned darts, const uint16_t *table, unsigned dimension, unsigned failing,
+                        uint8_t *marks)
+{
+    uint16_t open[MOST_DARTS];
+    unsigned opens = 1;
+    open[0] = (uint16_t)failing;
+    marks[failing] = STAY;
+    while (opens) {
+        unsigned d = open[--opens];
+        for (unsigned j = 0; j <= n; j++) {
+            unsigned e = table[j * darts + d];
+            if (j != dimension && marks[e] != STAY) {
+                marks[e] = STAY;
+                open[opens++] = (uint16_t)e;
+            }
+        }
+    }
+}
+
+zg_refusal plain_mark(uint8_t n, uint16_t darts, const uint16_t *table, size_t table_len, uint8_t dimension,
+                      uint8_t *marks, size_t marks_len)
+{
+    unsigned bad = bad_size(n, darts, 0);
+    if (bad)
+        return RESULT(zg_refusal, bad);
+    if (table_len != (size_t)(n + 1) * darts || marks_len != darts)
+        return RESULT(zg_refusal, 4);
+    if (dimension >= n)
+        return RESULT(zg_refusal, 13, 0, dimension);
+    zg_refusal r = check_level(n, darts, table);
+    if (r.number)
+        return r;
+    for (unsigned d = 0; d < darts; d++)
+        marks[d] = table[d] == NONE ? STAY : dimension;
+    if (dimension + 2 > n)
+        return r;
+    const uint16_t *a = table + (dimension + 1) * darts, *b = a + darts;
+    for (unsigned d = 0; d < darts; d++)
+        if (marks[d] != STAY && b[a[d]] != a[b[d]])
+            unmark_cell(n, darts, table, dimension, d, marks);
+    return r;
+}
+
+/* ---------------------------------------------------------------- records */
+
+/* Number 16, 17 or 18 for the field that starts at a byte, or 0. */
+static unsigned bad_field(const uint8_t *bytes, size_t len, size_t at, unsigned tag, unsigned length)
+{
+    size_t left = len - at;
+    if (left == 0)
+        return 16;
+    if (bytes[at] != tag)
+        return 17;
+    if (left < 3)
+        return 16;
+    if ((bytes[at + 1] | bytes[at + 2] << 8) != (int)length)
+        return 18;
+    return left - 3 < length ? 16 : 0;
+}
+
+static void take_row(uint16_t *row, const uint8_t *body, unsigned darts, bool one_byte)
+{
+    if (one_byte)
+        for (unsigned d = 0; d < darts; d++)
+            row[d] = body[d];
+#if __BYTE_ORDER__ == __ORDER_LITTLE_ENDIAN__
+    else
+        memcpy(row, body, 2 * darts);
+#else
+    else
+        for (unsigned d = 0; d < darts; d++)
+            row[d] = (uint16_t)(body[2 * d] | body[2 * d + 1] << 8);
+#endif
+}
+
+zg_record plain_take(const uint8_t *bytes, size_t bytes_len, uint16_t *rows, size_t rows_len, uint8_t *lambda,
+                     size_t lambda_len, uint8_t *delta, size_t delta_len)
+{
+    unsigned bad = bad_field(bytes, bytes_len, 0, 0x01, 4);
+    if (bad)
+        return RESULT(zg_record, bad);
+    unsigned n = bytes[3], h = bytes[4], darts = bytes[5] | bytes[6] << 8;
+    bad = bad_size(n, darts, h);
+    if (bad)
+        return RESULT(zg_record, bad);
+    size_t at = 7;
+    bool one_byte = darts <= 256 && bytes_len > at && bytes[at] == 0x20;
+    unsigned tag = one_byte ? 0x20 : 0x10, length = one_byte ? darts : 2 * darts;
+    for (unsigned i = 0; i <= n; i++, at += 3 + length)
+        if ((bad = bad_field(bytes, bytes_len, at, tag + i, length)))
+            return RESULT(zg_record, bad, .dart = (uint16_t)at);
+    for (unsigned k = 0; k < 2; k++, at += 3 + darts)
+        if ((bad = bad_field(bytes, bytes_len, at, 0x30 + k, darts)))
+            return RESULT(zg_record, bad, .dart = (uint16_t)at);
+    if (at != bytes_len)
+        return RESULT(zg_record, 19, .dart = (uint16_t)at);
+    if (rows_len < (size_t)(n + 1) * darts || lambda_len < darts || delta_len < darts)
+        return RESULT(zg_record, 4);
+    for (unsigned i = 0; i <= n; i++)
+        take_row(rows + i * darts, bytes + 10 + i * (3 + length), darts, one_byte);
+    memcpy(lambda, bytes + at - 3 - 2 * darts, darts);
+    memcpy(delta, bytes + at - darts, darts);
+    return RESULT(zg_record, .n = (uint8_t)n, .h = (uint8_t)h, .darts = (uint16_t)darts);
+}

@@ -1,0 +1,106 @@
+#!/bin/bash
+# Counts the x86-64 instructions that each job takes, in the library and in plain C at gcc -O3, in one run.
+#
+#   LIB    the library, default target/staticlib/libzompelgors.a
+#   BUILD  where the programs are built, default target/bench
+#   CPU    the processor that is emulated, default qemu64
+#
+# Each figure is a run with one repetition less a run with none, so that setting up isn't in it. All buffers are
+# written before: they were cleared once, and no page is touched for the first time while instructions are counted.
+# qemu64 has no fast 'rep movsb', which the C library would use for large copies and the plug-in counts byte by byte.
+set -u
+source "$(dirname "$0")/../tests/tools.sh"
+BUILD=${BUILD:-target/bench} CPU=${CPU:-qemu64}
+maps="grid2 grid3 path32 grid4 strip voxels"
+jobs="check add unfold read bylevels mark take survivors"
+
+need "$CC" "${packages[0]}"
+need "$OBJCOPY" "${packages[2]}"
+need gcc gcc
+need qemu-x86_64 qemu-user
+stop_if_missing
+mkdir -p "$BUILD" || exit 2
+library "$BUILD"
+
+# The C library comes before the library measured: should that bring a memcpy of its own, both use the same one.
+build() {
+    local part
+    gcc -O2 -shared -fPIC -o "$BUILD/libinsn.so" bench/insn.c || return 1
+    for part in bench maps plain; do
+        "$CC" "${cflags[@]}" -std=gnu11 -O3 -c "bench/$part.c" -o "$BUILD/$part.o" || return 1
+    done
+    "$CC" -static "$BUILD/bench.o" "$BUILD/maps.o" "$BUILD/plain.o" -lc "$LIB" -o "$BUILD/bench"
+}
+build || exit 2
+
+# instructions IMPLEMENTATION JOB MAP REPEAT; what the program says (n, N, h, base reads) goes to a file.
+instructions() {
+    local out
+    if ! out=$(qemu-x86_64 -cpu "$CPU" -plugin "$BUILD/libinsn.so" "$BUILD/bench" "$@" 2>&1 >"$BUILD/facts"); then
+        echo "bench $* failed: $out" >&2
+        return 1
+    fi
+    echo "${out##*instructions }"
+}
+
+# count IMPLEMENTATION JOB MAP: of one repetition.
+count() {
+    local with without
+    with=$(instructions "$@" 1) && without=$(instructions "$@" 0) && echo $((with - without))
+}
+
+# line LIBRARY C READS LIMIT: instructions, for each read, ratio, and whether it is over its target.
+line() {
+    awk -v a="$1" -v c="$2" -v reads="$3" -v most="$4" 'BEGIN {
+        printf "%12d %12d", a, c
+        if (reads > 0) printf " %10d %8.2f %8.2f", reads, a / reads, c / reads
+        else printf " %10s %8s %8s", "-", "-", "-"
+        over = (a > most * c) ? "  over" : ""
+        printf " %7.3f %5.2f%s\n", a / c, most, over
+    }'
+}
+
+limit() {
+    case $1 in
+    unfold | read | bylevels) echo 1.00 ;;
+    *) echo 1.20 ;;
+    esac
+}
+
+echo "x86-64 instructions, $("$CC" --version | head -n 1), -O3; $(qemu-x86_64 --version | head -n 1), -cpu $CPU"
+echo "buffers cleared once before counting"
+echo
+columns='%-9s %-22s %12s %12s %10s %8s %8s'
+printf "$columns %7s %5s\n" job "map (n, N, h)" library C "base reads" "lib/read" "C/read" ratio most
+for job in $jobs; do
+    for map in $maps; do
+        lib=$(count library "$job" "$map") && c=$(count c "$job" "$map") || exit 2
+        read -r n darts h reads <"$BUILD/facts"
+        printf '%-9s %-22s ' "$job" "$map ($n, $darts, $h)"
+        line "$lib" "$c" "$reads" "$(limit "$job")"
+    done
+done
+
+echo
+echo "readings by levels in C that pass at once over levels without a change (document 01's go level by level)"
+for map in $maps; do
+    c=$(count skipping bylevels "$map") || exit 2
+    read -r n darts h reads <"$BUILD/facts"
+    each=$(awk -v c="$c" -v reads="$reads" 'BEGIN { printf "%.2f", c / reads }')
+    printf "$columns\n" bylevels "$map ($n, $darts, $h)" "" "$c" "$reads" "" "$each"
+done
+
+echo
+echo "growth: instructions for each dart, library (C)"
+printf '%-8s %-8s %20s %20s %20s %20s\n' job map 512 1024 2048 4096
+for job in check unfold mark; do
+    for map in grid2 path32; do
+        printf '%-8s %-8s' "$job" "$map"
+        for size in -512 -1024 -2048 ""; do
+            lib=$(count library "$job" "$map$size") && c=$(count c "$job" "$map$size") || exit 2
+            read -r n darts h reads <"$BUILD/facts"
+            awk -v a="$lib" -v c="$c" -v d="$darts" 'BEGIN { printf " %20s", sprintf("%.1f (%.1f)", a / d, c / d) }'
+        done
+        echo
+    done
+done

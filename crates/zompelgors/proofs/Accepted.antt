@@ -1,0 +1,30 @@
+-- What an accepted row tells, and what a refused record keeps. Assumes nothing.
+use mathlib.Core.Path.{_≡_, refl}
+use mathlib.Core.Bool.{_&&_}
+use mathlib.Core.List.{List}
+use Prim.Native.Nat.{ℕ, suc, _*_, _≤_}
+use lib.Dec.{ltb}
+use borrow.Author.Tests.{ltb-false}
+use Rattle.maps.specs.Verdict.{Verdict, accepted, refused, ifAccepted, _then_}
+use Rattle.maps.specs.Sizes.{sizes, number4, number11, number13, hasLength}
+use Rattle.maps.specs.Row.{rowLent}
+use Rattle.facts.proofs.Tables.{table-size}
+use Rattle.facts.proofs.Verdicts.{then-accepted, when-accepted}
+use Rattle.facts.proofs.Sizes.{sizes-sized}
+use Rattle.zompelgors.specs.Flat.{recordFor}
+
+-- the start of an accepted row is a small number
+pub row-start : (n N h : ℕ) (base unfolded : List ℕ) (l i : ℕ) → rowLent n N h base unfolded l i ≡ accepted → i * N ≤ 16384
+unfolding rowLent number13
+row-start n N h base unfolded l i e =
+    let exact = hasLength base (suc n * N) && hasLength unfolded (suc n * N) in
+    let r = then-accepted (sizes n N h) (number4 exact then (number11 h l i 0 then number13 n l i 0)) e in
+    let s = then-accepted (number4 exact) (number11 h l i 0 then number13 n l i 0) (r .1) in
+    let t = then-accepted (number11 h l i 0) (number13 n l i 0) (s .1) in
+    let z = sizes-sized n N h (r .0) in
+    table-size n N i (z .dimension) (z .darts) (ltb-false n i (when-accepted (ltb n i) 13 l i 0 (t .1))) .0
+
+-- values that are 0 in a refusal give the same struct
+pub record-same : (v : Verdict) (n h N : ℕ) → recordFor v (ifAccepted v n 0) (ifAccepted v h 0) (ifAccepted v N 0) ≡ recordFor v n h N
+record-same accepted n h N = refl
+record-same (refused k l i d) n h N = refl

@@ -1,0 +1,28 @@
+-- `checked` meets its contract. Assumes nothing.
+use mathlib.Core.Path.{sym, ap, _∙_}
+use Rattle.zompelgors.specs.Flat.{refusalFor}
+use Rattle.answers.specs.Numbers.{verdictOf}
+use borrow.Author.Needs.{needs}
+use Rattle.zompelgors.proofs.checked.Statement.{statement}
+use Rattle.zompelgors.proofs.checked.Tie as tie
+use Rattle.zompelgors.proofs.checked.Reads as reads
+use Rattle.zompelgors.proofs.checked.Lts as lts
+use Rattle.zompelgors.proofs.refused.Reads as refused-reads
+
+enum-told : tie.Need-enum-told
+enum-told c = search needs
+
+enum-known-check : tie.Need-enum-known-check
+enum-known-check c = search needs
+
+refused-requires : tie.Need-refused-requires
+refused-requires c κs = search needs
+
+returns : tie.Need-returns
+returns c = sym (ap (λ x. refusalFor (verdictOf x)) (c .enum-told .given .1))
+
+returns-2 : tie.Need-returns-2
+returns-2 c = c .refused .ensures ∙ sym (ap (λ x. refusalFor (verdictOf x)) (c .before .before .check .given .1))
+
+pub checked-spec : {M : Type 1} → statement M
+checked-spec = tie.close (tie.spec enum-told enum-known-check refused-requires returns returns-2)

@@ -1,0 +1,31 @@
+-- `read_as` meets its contract. Assumes nothing.
+use mathlib.Core.Path.{sym, ap, _∙_}
+use Rattle.maps.specs.Read.{none, unless}
+use Rattle.reading.specs.Readings.{valueOf}
+use Rattle.zompelgors.specs.Flat.{readingFor}
+use borrow.Author.Needs.{needs}
+use Rattle.zompelgors.proofs.read_as.Statement.{statement}
+use Rattle.zompelgors.proofs.read_as.Tie as tie
+use Rattle.zompelgors.proofs.read_as.Reads as reads
+use Rattle.zompelgors.proofs.read_as.Lts as lts
+use Rattle.answers.proofs.numbers_of.Reads as numbers-of-reads
+
+enum-known-answer : tie.Need-enum-known-answer
+enum-known-answer c = search needs
+
+enum-known-answer-2 : tie.Need-enum-known-answer-2
+enum-known-answer-2 c = search needs
+
+numbers-of-requires : tie.Need-numbers-of-requires
+numbers-of-requires c κs = search needs
+
+returns : tie.Need-returns
+returns c = sym (ap (λ x. readingFor (valueOf x)) (c .before .answer .given .1))
+
+returns-2 : tie.Need-returns-2
+returns-2 c = ap (λ v. readingFor (unless v (none 0 0 0 0))) (c .numbers-of .ensures) ∙ sym (ap (λ x. readingFor (valueOf x)) (c .before .before .answer2 .given .1))
+
+pub read-as-spec : {M : Type 1} → statement M
+read-as-spec =
+    tie.close
+    (tie.spec enum-known-answer enum-known-answer-2 numbers-of-requires returns returns-2)

@@ -1,0 +1,29 @@
+-- `totalled` meets its contract. Assumes nothing.
+use mathlib.Core.Path.{sym, ap, _∙_}
+use Rattle.reading.specs.Totals.{checkOf, totalOf}
+use Rattle.zompelgors.specs.Flat.{countFor}
+use borrow.Author.Needs.{needs}
+use Rattle.zompelgors.proofs.totalled.Statement.{statement}
+use Rattle.zompelgors.proofs.totalled.Tie as tie
+use Rattle.zompelgors.proofs.totalled.Reads as reads
+use Rattle.zompelgors.proofs.totalled.Lts as lts
+use Rattle.zompelgors.proofs.uncounted.Reads as uncounted-reads
+
+enum-known-total : tie.Need-enum-known-total
+enum-known-total c = search needs
+
+enum-known-total-2 : tie.Need-enum-known-total-2
+enum-known-total-2 c = search needs
+
+uncounted-requires : tie.Need-uncounted-requires
+uncounted-requires c κs = search needs
+
+returns : tie.Need-returns
+returns c = sym (ap (λ x. countFor (checkOf x) (totalOf x)) (c .before .total .given .1))
+
+returns-2 : tie.Need-returns-2
+returns-2 c = c .uncounted .ensures ∙ sym (ap (λ x. countFor (checkOf x) (totalOf x)) (c .before .before .total2 .given .1))
+
+pub totalled-spec : {M : Type 1} → statement M
+totalled-spec =
+    tie.close (tie.spec enum-known-total enum-known-total-2 uncounted-requires returns returns-2)

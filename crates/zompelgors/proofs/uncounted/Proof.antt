@@ -1,0 +1,18 @@
+-- `uncounted` meets its contract. Assumes nothing.
+use mathlib.Core.Path.{ap}
+use Rattle.zompelgors.specs.Flat.{countFor}
+use borrow.Author.Needs.{needs}
+use Rattle.zompelgors.proofs.uncounted.Statement.{statement}
+use Rattle.zompelgors.proofs.uncounted.Tie as tie
+use Rattle.zompelgors.proofs.uncounted.Reads as reads
+use Rattle.zompelgors.proofs.uncounted.Lts as lts
+use Rattle.answers.proofs.numbers_of.Reads as numbers-of-reads
+
+numbers-of-requires : tie.Need-numbers-of-requires
+numbers-of-requires c κs = search needs
+
+returns : tie.Need-returns
+returns c = ap (λ v. countFor v 0) (c .numbers-of .ensures)
+
+pub uncounted-spec : {M : Type 1} → statement M
+uncounted-spec = tie.close (tie.spec numbers-of-requires returns)

@@ -1,0 +1,33 @@
+-- `zg_add` meets its contract: the job does, and its answer is flattened. Assumes nothing.
+use mathlib.Core.Path.{ap₂, _∙_}
+use Rattle.zompelgors.specs.Flat.{heightFor}
+use borrow.Author.Needs.{needs}
+use Rattle.zompelgors.proofs.zg_add.Statement.{statement}
+use Rattle.zompelgors.proofs.zg_add.Tie as tie
+use Rattle.zompelgors.proofs.zg_add.Reads as reads
+use Rattle.zompelgors.proofs.zg_add.Lts as lts
+use Rattle.checking.proofs.add.Reads as add-reads
+use Rattle.zompelgors.proofs.grown.Reads as grown-reads
+
+add-requires : tie.Need-add-requires
+add-requires c κs = search needs
+
+grown-requires : tie.Need-grown-requires
+grown-requires c κs = search needs
+
+same-length : tie.Need-same-length
+same-length c = search needs
+
+same-length-2 : tie.Need-same-length-2
+same-length-2 c = search needs
+
+same-length-3 : tie.Need-same-length-3
+same-length-3 c = search needs
+
+returns : tie.Need-returns
+returns c = let e = c .before .before .before .before .before .before .before .add .ensures in (c .grown .ensures ∙ ap₂ heightFor (e .0) (e .1 .0), e .1 .1)
+
+pub zg-add-spec : {M : Type 1} → statement M
+zg-add-spec =
+    tie.close
+    (tie.spec add-requires grown-requires same-length same-length-2 same-length-3 returns)

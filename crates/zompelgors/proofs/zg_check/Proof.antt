@@ -1,0 +1,25 @@
+-- `zg_check` meets its contract: the job does, and its answer is flattened. Assumes nothing.
+use mathlib.Core.Path.{ap, _∙_}
+use Rattle.zompelgors.specs.Flat.{refusalFor}
+use borrow.Author.Needs.{needs}
+use Rattle.zompelgors.proofs.zg_check.Statement.{statement}
+use Rattle.zompelgors.proofs.zg_check.Tie as tie
+use Rattle.zompelgors.proofs.zg_check.Reads as reads
+use Rattle.zompelgors.proofs.zg_check.Lts as lts
+use Rattle.checking.proofs.check.Reads as check-reads
+use Rattle.zompelgors.proofs.checked.Reads as checked-reads
+
+check-requires : tie.Need-check-requires
+check-requires c κs = search needs
+
+checked-requires : tie.Need-checked-requires
+checked-requires c κs = search needs
+
+same-length : tie.Need-same-length
+same-length c = search needs
+
+returns : tie.Need-returns
+returns c = let e = c .before .before .before .check .ensures in (c .checked .ensures ∙ ap refusalFor (e .0), e .1)
+
+pub zg-check-spec : {M : Type 1} → statement M
+zg-check-spec = tie.close (tie.spec check-requires checked-requires same-length returns)

@@ -1,0 +1,22 @@
+-- `zg_check_base` meets its contract: the job does, and its answer is flattened. Assumes nothing.
+use mathlib.Core.Path.{ap, _∙_}
+use Rattle.zompelgors.specs.Flat.{refusalFor}
+use borrow.Author.Needs.{needs}
+use Rattle.zompelgors.proofs.zg_check_base.Statement.{statement}
+use Rattle.zompelgors.proofs.zg_check_base.Tie as tie
+use Rattle.zompelgors.proofs.zg_check_base.Reads as reads
+use Rattle.zompelgors.proofs.zg_check_base.Lts as lts
+use Rattle.checking.proofs.check_base.Reads as check-base-reads
+use Rattle.zompelgors.proofs.checked.Reads as checked-reads
+
+check-base-requires : tie.Need-check-base-requires
+check-base-requires c κs = search needs
+
+checked-requires : tie.Need-checked-requires
+checked-requires c κs = search needs
+
+returns : tie.Need-returns
+returns c = c .checked .ensures ∙ ap refusalFor (c .before .check-base .ensures)
+
+pub zg-check-base-spec : {M : Type 1} → statement M
+zg-check-base-spec = tie.close (tie.spec check-base-requires checked-requires returns)

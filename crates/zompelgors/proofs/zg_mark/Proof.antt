@@ -1,0 +1,25 @@
+-- `zg_mark` meets its contract: the job does, and its answer is flattened. Assumes nothing.
+use mathlib.Core.Path.{ap, _∙_}
+use Rattle.zompelgors.specs.Flat.{refusalFor}
+use borrow.Author.Needs.{needs}
+use Rattle.zompelgors.proofs.zg_mark.Statement.{statement}
+use Rattle.zompelgors.proofs.zg_mark.Tie as tie
+use Rattle.zompelgors.proofs.zg_mark.Reads as reads
+use Rattle.zompelgors.proofs.zg_mark.Lts as lts
+use Rattle.cells.proofs.mark_cells.Reads as mark-cells-reads
+use Rattle.zompelgors.proofs.checked.Reads as checked-reads
+
+mark-cells-requires : tie.Need-mark-cells-requires
+mark-cells-requires c κs = search needs
+
+checked-requires : tie.Need-checked-requires
+checked-requires c κs = search needs
+
+same-length : tie.Need-same-length
+same-length c = search needs
+
+returns : tie.Need-returns
+returns c = let e = c .before .before .before .mark-cells .ensures in (c .checked .ensures ∙ ap refusalFor (e .0), e .1)
+
+pub zg-mark-spec : {M : Type 1} → statement M
+zg-mark-spec = tie.close (tie.spec mark-cells-requires checked-requires same-length returns)

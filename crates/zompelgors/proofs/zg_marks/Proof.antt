@@ -1,0 +1,25 @@
+-- `zg_marks` meets its contract: the job does, and its answer is flattened. Assumes nothing.
+use mathlib.Core.Path.{ap, _∙_}
+use Rattle.zompelgors.specs.Flat.{refusalFor}
+use borrow.Author.Needs.{needs}
+use Rattle.zompelgors.proofs.zg_marks.Statement.{statement}
+use Rattle.zompelgors.proofs.zg_marks.Tie as tie
+use Rattle.zompelgors.proofs.zg_marks.Reads as reads
+use Rattle.zompelgors.proofs.zg_marks.Lts as lts
+use Rattle.rows.proofs.marks_of.Reads as marks-of-reads
+use Rattle.zompelgors.proofs.checked.Reads as checked-reads
+
+marks-of-requires : tie.Need-marks-of-requires
+marks-of-requires c κs = search needs
+
+checked-requires : tie.Need-checked-requires
+checked-requires c κs = search needs
+
+same-length : tie.Need-same-length
+same-length c = search needs
+
+returns : tie.Need-returns
+returns c = let e = c .before .before .before .marks-of .ensures in (c .checked .ensures ∙ ap refusalFor (e .0), e .1)
+
+pub zg-marks-spec : {M : Type 1} → statement M
+zg-marks-spec = tie.close (tie.spec marks-of-requires checked-requires same-length returns)

@@ -1,0 +1,22 @@
+-- `zg_read_by_levels` meets its contract: the job does, and its answer is flattened. Assumes nothing.
+use mathlib.Core.Path.{ap, _∙_}
+use Rattle.zompelgors.specs.Flat.{readingFor}
+use borrow.Author.Needs.{needs}
+use Rattle.zompelgors.proofs.zg_read_by_levels.Statement.{statement}
+use Rattle.zompelgors.proofs.zg_read_by_levels.Tie as tie
+use Rattle.zompelgors.proofs.zg_read_by_levels.Reads as reads
+use Rattle.zompelgors.proofs.zg_read_by_levels.Lts as lts
+use Rattle.levelwise.proofs.read_by_levels.Reads as read-by-levels-reads
+use Rattle.zompelgors.proofs.read_as.Reads as read-as-reads
+
+read-by-levels-requires : tie.Need-read-by-levels-requires
+read-by-levels-requires c κs = search needs
+
+read-as-requires : tie.Need-read-as-requires
+read-as-requires c κs = search needs
+
+returns : tie.Need-returns
+returns c = c .read-as .ensures ∙ ap readingFor (c .before .read-by-levels .ensures)
+
+pub zg-read-by-levels-spec : {M : Type 1} → statement M
+zg-read-by-levels-spec = tie.close (tie.spec read-by-levels-requires read-as-requires returns)

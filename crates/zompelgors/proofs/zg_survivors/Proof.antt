@@ -1,0 +1,25 @@
+-- `zg_survivors` meets its contract: the job does, and its answer is flattened. Assumes nothing.
+use mathlib.Core.Path.{ap₂, _∙_}
+use Rattle.zompelgors.specs.Flat.{countFor}
+use borrow.Author.Needs.{needs}
+use Rattle.zompelgors.proofs.zg_survivors.Statement.{statement}
+use Rattle.zompelgors.proofs.zg_survivors.Tie as tie
+use Rattle.zompelgors.proofs.zg_survivors.Reads as reads
+use Rattle.zompelgors.proofs.zg_survivors.Lts as lts
+use Rattle.rows.proofs.survivors.Reads as survivors-reads
+use Rattle.zompelgors.proofs.counted.Reads as counted-reads
+
+survivors-requires : tie.Need-survivors-requires
+survivors-requires c κs = search needs
+
+counted-requires : tie.Need-counted-requires
+counted-requires c κs = search needs
+
+same-length : tie.Need-same-length
+same-length c = search needs
+
+returns : tie.Need-returns
+returns c = let e = c .before .before .before .survivors .ensures in (c .counted .ensures ∙ ap₂ countFor (e .0) (e .1 .0), e .1 .1)
+
+pub zg-survivors-spec : {M : Type 1} → statement M
+zg-survivors-spec = tie.close (tie.spec survivors-requires counted-requires same-length returns)

@@ -1,0 +1,25 @@
+-- `zg_unfold` meets its contract: the job does, and its answer is flattened. Assumes nothing.
+use mathlib.Core.Path.{ap₂, _∙_}
+use Rattle.zompelgors.specs.Flat.{countFor}
+use borrow.Author.Needs.{needs}
+use Rattle.zompelgors.proofs.zg_unfold.Statement.{statement}
+use Rattle.zompelgors.proofs.zg_unfold.Tie as tie
+use Rattle.zompelgors.proofs.zg_unfold.Reads as reads
+use Rattle.zompelgors.proofs.zg_unfold.Lts as lts
+use Rattle.reading.proofs.unfold.Reads as unfold-reads
+use Rattle.zompelgors.proofs.totalled.Reads as totalled-reads
+
+unfold-requires : tie.Need-unfold-requires
+unfold-requires c κs = search needs
+
+totalled-requires : tie.Need-totalled-requires
+totalled-requires c κs = search needs
+
+same-length : tie.Need-same-length
+same-length c = search needs
+
+returns : tie.Need-returns
+returns c = let e = c .before .before .before .unfold .ensures in (c .totalled .ensures ∙ ap₂ countFor (e .0) (e .1 .0), e .1 .1)
+
+pub zg-unfold-spec : {M : Type 1} → statement M
+zg-unfold-spec = tie.close (tie.spec unfold-requires totalled-requires same-length returns)

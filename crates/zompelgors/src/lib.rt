@@ -1,0 +1,513 @@
+// The C interface of the jobs: pointers with lengths, structs by value. Assumes nothing of a caller beyond pointers that are good for the lengths given.
+use answers::Check;
+use answers::Dim;
+use answers::Level;
+use answers::Refusal;
+ghost use mathlib.Core.Path.{_≡_};
+ghost use Prim.Native.Nat.{_*_, _≤_};
+ghost use mathlib.Core.Bool.{cond};
+ghost use lib.Dec.{eqb};
+ghost use Rattle.maps.specs.Verdict.{accepted};
+ghost use Rattle.maps.specs.CheckBase.{checkBase};
+ghost use Rattle.maps.specs.CheckPyramid.{checkLent, checkLeaves};
+ghost use Rattle.maps.specs.AddLevel.{addLent, addHeight, addLambda, addDelta, addLeaves};
+ghost use Rattle.maps.specs.MarksBack.{marksLent, marksLeaves};
+ghost use Rattle.maps.specs.Read.{readLent, readLentByLevels};
+ghost use Rattle.maps.specs.Unfold.{unfoldLent, unfoldTotal, unfoldLeaves};
+ghost use Rattle.maps.specs.Row.{rowLent};
+ghost use Rattle.maps.specs.Survivors.{survivorsLent, survivorCount, survivorWords};
+ghost use Rattle.maps.specs.MarkCells.{markLent, MarkLeaves};
+ghost use Rattle.maps.specs.Record.{recordDimension, recordHeight, recordDarts, takeLent, takeRows, takeLambda, takeDelta};
+ghost use Rattle.answers.specs.Numbers.{refusalOf, verdictOf};
+ghost use Rattle.checking.specs.Added.{addedOf, heightOf};
+ghost use Rattle.reading.specs.Readings.{valueOf};
+ghost use Rattle.reading.specs.Totals.{checkOf, totalOf};
+ghost use Rattle.rows.specs.Answers.{verdictOfSurvivors, countOfSurvivors};
+ghost use Rattle.records.specs.Answers.{takenOf};
+ghost use Rattle.zompelgors.specs.Flat.{refusalFor, readingFor, countFor, heightFor, partFor, recordFor};
+
+// The document's number and values; all 0 where accepted.
+#[repr(C)]
+pub struct ZgRefusal {
+    pub number: u16,
+    pub level: u16,
+    pub involution: u16,
+    pub dart: u16,
+}
+
+// A neighbour with the count of base entries read.
+#[repr(C)]
+pub struct ZgReading {
+    pub number: u16,
+    pub level: u16,
+    pub involution: u16,
+    pub dart: u16,
+    pub count: u32,
+    pub neighbour: u16,
+}
+
+// The total count of an unfolding, or the survivor count.
+#[repr(C)]
+pub struct ZgCount {
+    pub number: u16,
+    pub level: u16,
+    pub involution: u16,
+    pub dart: u16,
+    pub count: u32,
+}
+
+// The height after a level is added; as given in a refusal.
+#[repr(C)]
+pub struct ZgHeight {
+    pub number: u16,
+    pub level: u16,
+    pub involution: u16,
+    pub dart: u16,
+    pub height: u8,
+}
+
+// Where a row lies: a part of the base rows (unfolded 0) or of the unfolded level (unfolded 1).
+#[repr(C)]
+pub struct ZgPart {
+    pub number: u16,
+    pub level: u16,
+    pub involution: u16,
+    pub dart: u16,
+    pub unfolded: u8,
+    pub start: u16,
+    pub length: u16,
+}
+
+// n, h and N of a record that is taken.
+#[repr(C)]
+pub struct ZgRecord {
+    pub number: u16,
+    pub level: u16,
+    pub involution: u16,
+    pub dart: u16,
+    pub n: u8,
+    pub h: u8,
+    pub darts: u16,
+}
+
+// A refusal.
+fn refused(refusal: Refusal) -> ZgRefusal
+    ensures { λ r. ⌜ r ≡ refusalFor (refusalOf refusal) ⌝ }
+{
+    let x = answers::numbers_of(refusal);
+    ZgRefusal {
+        number: x.number,
+        level: x.level,
+        involution: x.involution,
+        dart: x.dart,
+    }
+}
+
+// The answer of a check.
+fn checked(check: Check) -> ZgRefusal
+    ensures { λ r. ⌜ r ≡ refusalFor (verdictOf check) ⌝ }
+{
+    match check {
+        Check::Accepted => ZgRefusal {
+            number: 0,
+            level: 0,
+            involution: 0,
+            dart: 0,
+        },
+        Check::Refused(r) => refused(r),
+    }
+}
+
+// The answer of a reading.
+fn read_as(answer: reading::Reading) -> ZgReading
+    ensures { λ r. ⌜ r ≡ readingFor (valueOf answer) ⌝ }
+{
+    match answer {
+        reading::Reading::Found(neighbour, count) => ZgReading {
+            number: 0,
+            level: 0,
+            involution: 0,
+            dart: 0,
+            count,
+            neighbour,
+        },
+        reading::Reading::Refused(refusal) => {
+            let x = answers::numbers_of(refusal);
+            ZgReading {
+                number: x.number,
+                level: x.level,
+                involution: x.involution,
+                dart: x.dart,
+                count: 0,
+                neighbour: 0,
+            }
+        },
+    }
+}
+
+// A refusal with a count of 0.
+fn uncounted(refusal: Refusal) -> ZgCount
+    ensures { λ r. ⌜ r ≡ countFor (refusalOf refusal) 0 ⌝ }
+{
+    let x = answers::numbers_of(refusal);
+    ZgCount {
+        number: x.number,
+        level: x.level,
+        involution: x.involution,
+        dart: x.dart,
+        count: 0,
+    }
+}
+
+// The answer of an unfolding.
+fn totalled(total: reading::Total) -> ZgCount
+    ensures { λ r. ⌜ r ≡ countFor (checkOf total) (totalOf total) ⌝ }
+{
+    match total {
+        reading::Total::Counted(count) => ZgCount {
+            number: 0,
+            level: 0,
+            involution: 0,
+            dart: 0,
+            count,
+        },
+        reading::Total::Refused(refusal) => uncounted(refusal),
+    }
+}
+
+// The answer of the survivor words.
+fn counted(answer: rows::Survivors) -> ZgCount
+    ensures { λ r. ⌜ r ≡ countFor (verdictOfSurvivors answer) (countOfSurvivors answer) ⌝ }
+{
+    match answer {
+        rows::Survivors::Counted(count) => ZgCount {
+            number: 0,
+            level: 0,
+            involution: 0,
+            dart: 0,
+            count,
+        },
+        rows::Survivors::Refused(refusal) => uncounted(refusal),
+    }
+}
+
+// The answer of an add, where h was the height.
+fn grown(h: u8, answer: checking::Added) -> ZgHeight
+    ensures { λ r. ⌜ r ≡ heightFor (addedOf answer) (heightOf h answer) ⌝ }
+{
+    match answer {
+        checking::Added::Grown(new) => ZgHeight {
+            number: 0,
+            level: 0,
+            involution: 0,
+            dart: 0,
+            height: new.0,
+        },
+        checking::Added::Refused(refusal) => {
+            let x = answers::numbers_of(refusal);
+            ZgHeight {
+                number: x.number,
+                level: x.level,
+                involution: x.involution,
+                dart: x.dart,
+                height: h,
+            }
+        },
+    }
+}
+
+// Is the row of a level other than 0?
+fn is_unfolded(level: u8) -> u8
+    ensures { λ r. ⌜ r ≡ cond (eqb level 0) 0 1 ⌝ }
+{
+    if level == 0 {
+        return 0;
+    }
+    1
+}
+
+// The place of a row, or why it is refused.
+fn part_as(check: Check, darts: u16, level: u8, involution: u8) -> ZgPart
+    requires { ⌜ (verdictOf check ≡ accepted → involution * darts ≤ 16384) ⌝ }
+    ensures { λ r. ⌜ r ≡ partFor (verdictOf check) darts level involution ⌝ }
+{
+    match check {
+        Check::Accepted => {
+            let unfolded = is_unfolded(level);
+            let start = involution as u16 * darts;
+            ZgPart {
+                number: 0,
+                level: 0,
+                involution: 0,
+                dart: 0,
+                unfolded,
+                start,
+                length: darts,
+            }
+        },
+        Check::Refused(refusal) => {
+            let x = answers::numbers_of(refusal);
+            ZgPart {
+                number: x.number,
+                level: x.level,
+                involution: x.involution,
+                dart: x.dart,
+                unfolded: 0,
+                start: 0,
+                length: 0,
+            }
+        },
+    }
+}
+
+// The answer of taking a record.
+fn taken_as(answer: records::Taken) -> ZgRecord
+    ensures { λ r. ⌜ r ≡ recordFor (takenOf answer .verdict) (takenOf answer .dimension) (takenOf answer .height) (takenOf answer .darts) ⌝ }
+{
+    match answer {
+        records::Taken::Record(n, h, darts) => ZgRecord {
+            number: 0,
+            level: 0,
+            involution: 0,
+            dart: 0,
+            n: n.0,
+            h: h.0,
+            darts,
+        },
+        records::Taken::Refused(refusal) => {
+            let x = answers::numbers_of(refusal);
+            ZgRecord {
+                number: x.number,
+                level: x.level,
+                involution: x.involution,
+                dart: x.dart,
+                n: 0,
+                h: 0,
+                darts: 0,
+            }
+        },
+    }
+}
+
+// Checks a base.
+#[no_mangle]
+pub extern "C" fn zg_check_base(n: u8, darts: u16, rows: &[u16]) -> ZgRefusal
+    ensures { λ r. ⌜ r ≡ refusalFor (checkBase n darts (now (rows .entry))) ⌝ }
+{
+    checked(checking::check_base(Dim(n), darts, rows))
+}
+
+// Checks a whole pyramid.
+#[no_mangle]
+pub extern "C" fn zg_check(
+    n: u8,
+    darts: u16,
+    h: u8,
+    rows: &[u16],
+    lambda: &[u8],
+    delta: &[u8],
+    table: &mut [u16],
+) -> ZgRefusal
+    ensures { λ r. ⌜ r ≡ refusalFor (checkLent n darts h (now (rows .entry)) (now (lambda .entry)) (now (delta .entry)) (now (table .entry))) ⌝ }
+    ensures { λ _. ⌜ now (table .exit) ≡ checkLeaves n darts h (now (rows .entry)) (now (lambda .entry)) (now (delta .entry)) (now (table .entry)) ⌝ }
+{
+    checked(checking::check(Dim(n), darts, Level(h), rows, lambda, delta, table))
+}
+
+// Adds a level on top.
+#[no_mangle]
+pub extern "C" fn zg_add(
+    n: u8,
+    darts: u16,
+    h: u8,
+    rows: &[u16],
+    lambda: &mut [u8],
+    delta: &mut [u8],
+    marks: &[u8],
+    table: &mut [u16],
+) -> ZgHeight
+    ensures { λ r. ⌜ r ≡ heightFor (addLent n darts h (now (rows .entry)) (now (lambda .entry)) (now (delta .entry)) (now (marks .entry)) (now (table .entry))) (addHeight n darts h (now (rows .entry)) (now (lambda .entry)) (now (delta .entry)) (now (marks .entry)) (now (table .entry))) ⌝ }
+    ensures { λ _. ⌜ now (lambda .exit) ≡ addLambda n darts h (now (rows .entry)) (now (lambda .entry)) (now (delta .entry)) (now (marks .entry)) (now (table .entry)) ⌝ }
+    ensures { λ _. ⌜ now (delta .exit) ≡ addDelta n darts h (now (rows .entry)) (now (lambda .entry)) (now (delta .entry)) (now (marks .entry)) (now (table .entry)) ⌝ }
+    ensures { λ _. ⌜ now (table .exit) ≡ addLeaves n darts h (now (rows .entry)) (now (lambda .entry)) (now (delta .entry)) (now (marks .entry)) (now (table .entry)) ⌝ }
+{
+    grown(
+        h,
+        checking::add(Dim(n), darts, Level(h), rows, lambda, delta, marks, table),
+    )
+}
+
+// Reads the mark row of a level back.
+#[no_mangle]
+pub extern "C" fn zg_marks(
+    n: u8,
+    darts: u16,
+    h: u8,
+    lambda: &[u8],
+    delta: &[u8],
+    level: u8,
+    marks: &mut [u8],
+) -> ZgRefusal
+    ensures { λ r. ⌜ r ≡ refusalFor (marksLent n darts h (now (lambda .entry)) (now (delta .entry)) level (now (marks .entry))) ⌝ }
+    ensures { λ _. ⌜ now (marks .exit) ≡ marksLeaves n darts h (now (lambda .entry)) (now (delta .entry)) level (now (marks .entry)) ⌝ }
+{
+    checked(rows::marks_of(Dim(n), darts, Level(h), lambda, delta, Level(level), marks))
+}
+
+// Reads one neighbour on a level by the direct walk.
+#[no_mangle]
+pub extern "C" fn zg_read(
+    n: u8,
+    darts: u16,
+    h: u8,
+    rows: &[u16],
+    lambda: &[u8],
+    delta: &[u8],
+    level: u8,
+    involution: u8,
+    dart: u16,
+) -> ZgReading
+    ensures { λ r. ⌜ r ≡ readingFor (readLent n darts h (now (rows .entry)) (now (lambda .entry)) (now (delta .entry)) level involution dart) ⌝ }
+{
+    read_as(reading::read(
+        Dim(n),
+        darts,
+        Level(h),
+        rows,
+        lambda,
+        delta,
+        Level(level),
+        Dim(involution),
+        dart,
+    ))
+}
+
+// Reads one neighbour on a level by readings one level lower each.
+#[no_mangle]
+pub extern "C" fn zg_read_by_levels(
+    n: u8,
+    darts: u16,
+    h: u8,
+    rows: &[u16],
+    lambda: &[u8],
+    delta: &[u8],
+    level: u8,
+    involution: u8,
+    dart: u16,
+) -> ZgReading
+    ensures { λ r. ⌜ r ≡ readingFor (readLentByLevels n darts h (now (rows .entry)) (now (lambda .entry)) (now (delta .entry)) level involution dart) ⌝ }
+{
+    read_as(levelwise::read_by_levels(
+        Dim(n),
+        darts,
+        Level(h),
+        rows,
+        lambda,
+        delta,
+        Level(level),
+        Dim(involution),
+        dart,
+    ))
+}
+
+// Unfolds a whole level.
+#[no_mangle]
+pub extern "C" fn zg_unfold(
+    n: u8,
+    darts: u16,
+    h: u8,
+    rows: &[u16],
+    lambda: &[u8],
+    delta: &[u8],
+    level: u8,
+    table: &mut [u16],
+) -> ZgCount
+    ensures { λ r. ⌜ r ≡ countFor (unfoldLent n darts h (now (rows .entry)) (now (lambda .entry)) (now (delta .entry)) level (now (table .entry))) (unfoldTotal n darts h (now (rows .entry)) (now (lambda .entry)) (now (delta .entry)) level (now (table .entry))) ⌝ }
+    ensures { λ _. ⌜ now (table .exit) ≡ unfoldLeaves n darts h (now (rows .entry)) (now (lambda .entry)) (now (delta .entry)) level (now (table .entry)) ⌝ }
+{
+    totalled(reading::unfold(
+        Dim(n),
+        darts,
+        Level(h),
+        rows,
+        lambda,
+        delta,
+        Level(level),
+        table,
+    ))
+}
+
+// Says where a row of a level lies.
+#[no_mangle]
+pub extern "C" fn zg_row(
+    n: u8,
+    darts: u16,
+    h: u8,
+    base: &[u16],
+    unfolded: &[u16],
+    level: u8,
+    involution: u8,
+) -> ZgPart
+    ensures { λ r. ⌜ r ≡ partFor (rowLent n darts h (now (base .entry)) (now (unfolded .entry)) level involution) darts level involution ⌝ }
+{
+    part_as(
+        rows::row_refusal(
+            Dim(n),
+            darts,
+            Level(h),
+            base,
+            unfolded,
+            Level(level),
+            Dim(involution),
+        ),
+        darts,
+        level,
+        involution,
+    )
+}
+
+// The survivor words of a level.
+#[no_mangle]
+pub extern "C" fn zg_survivors(
+    darts: u16,
+    h: u8,
+    lambda: &[u8],
+    level: u8,
+    words: &mut [u64],
+) -> ZgCount
+    ensures { λ r. ⌜ r ≡ countFor (survivorsLent darts h (now (lambda .entry)) level (now (words .entry))) (survivorCount darts h (now (lambda .entry)) level (now (words .entry))) ⌝ }
+    ensures { λ _. ⌜ now (words .exit) ≡ survivorWords darts h (now (lambda .entry)) level (now (words .entry)) ⌝ }
+{
+    counted(rows::survivors(darts, Level(h), lambda, Level(level), words))
+}
+
+// Marks the removable cells of one dimension on an explicit level.
+#[no_mangle]
+pub extern "C" fn zg_mark(
+    n: u8,
+    darts: u16,
+    table: &[u16],
+    dimension: u8,
+    marks: &mut [u8],
+) -> ZgRefusal
+    ensures { λ r. ⌜ r ≡ refusalFor (markLent n darts (now (table .entry)) dimension (now (marks .entry))) ⌝ }
+    ensures { λ _. ⌜ MarkLeaves n darts (now (table .entry)) dimension (now (marks .entry)) (markLent n darts (now (table .entry)) dimension (now (marks .entry))) (now (marks .exit)) ⌝ }
+{
+    checked(cells::mark_cells(Dim(n), darts, table, Dim(dimension), marks))
+}
+
+// Takes a record into lent memory.
+#[no_mangle]
+pub extern "C" fn zg_take(
+    bytes: &[u8],
+    rows: &mut [u16],
+    lambda: &mut [u8],
+    delta: &mut [u8],
+) -> ZgRecord
+    ensures { λ r. ⌜ r ≡ recordFor (takeLent (now (bytes .entry)) (now (rows .entry)) (now (lambda .entry)) (now (delta .entry))) (recordDimension (now (bytes .entry))) (recordHeight (now (bytes .entry))) (recordDarts (now (bytes .entry))) ⌝ }
+    ensures { λ _. ⌜ now (rows .exit) ≡ takeRows (now (bytes .entry)) (now (rows .entry)) (now (lambda .entry)) (now (delta .entry)) ⌝ }
+    ensures { λ _. ⌜ now (lambda .exit) ≡ takeLambda (now (bytes .entry)) (now (rows .entry)) (now (lambda .entry)) (now (delta .entry)) ⌝ }
+    ensures { λ _. ⌜ now (delta .exit) ≡ takeDelta (now (bytes .entry)) (now (rows .entry)) (now (lambda .entry)) (now (delta .entry)) ⌝ }
+{
+    taken_as(records::take(bytes, rows, lambda, delta))
+}

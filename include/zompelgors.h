@@ -1,0 +1,159 @@
+/* The C interface to pyramids of generalized maps in folded form. */
+#ifndef ZOMPELGORS_H
+#define ZOMPELGORS_H
+
+#include <stddef.h>
+#include <stdint.h>
+
+#ifdef __cplusplus
+extern "C" {
+#endif
+
+/*
+ * What is lent
+ *
+ *   n        dimension, 1 to 4
+ *   darts    N, 1 to 4,096; darts are 0 to N-1
+ *   h        height, 0 to 32; levels run 0 to h
+ *   rows     the base: involutions a0 to an, row 0 first, (n+1)N entries
+ *   lambda   for each dart the number of the kernel that removes it, h if none does: N entries
+ *   delta    for each dart its dimension in that kernel, n if none removes it: N entries
+ *   table    an explicit level, laid out as rows: (n+1)N entries; every entry of a removed dart is 65,535
+ *   marks    a mark row, N entries: below n, remove with that dimension; 255, stay
+ *   words    survivor words, 64 entries: dart d at bit d mod 64 of word d div 64
+ *
+ * Every length is in entries, not bytes, and must be exact (zg_take alone takes longer ones). A pointer must be good
+ * for the length that is given with it, also where that length is wrong; at length 0 it must still not be null.
+ * Memory is lent for the call only; no pointer is kept. Memory that is not const must not overlap any other memory
+ * lent to the same call. What table, marks and words held before is not read, unless the pointer is const.
+ *
+ * What is returned
+ *
+ * number is 0 (accepted, then level, involution and dart are 0 too) or a refusal:
+ *
+ *    1  n not 1..4                           11  level above h
+ *    2  N not 1..4,096                       12  dart is N or more, or not on the level
+ *    3  h above 32                           13  involution above n; for marking, dimension n or more
+ *    4  a length is not exact                14  walk meets a removed dart that it can't pass
+ *       (records: too short)                 15  walk needs more than 1 + 2N reads
+ *    5  a neighbour is N or more             16  record ends early
+ *       (explicit levels: or not present)    17  other tag than due
+ *    6  an a_i twice isn't the identity      18  wrong length of a field
+ *    7  a_i and a_j don't commute, j >= i+2  19  bytes after the record's end
+ *    8  Lambda, Delta or mark not allowed    20  a level is added at h = 32
+ *    9  kernel isn't whole cells
+ *   10  cell not removable
+ *
+ * Each function tests its numbers in the order given with it; the first place found is the one reported. A field that
+ * says nothing is 0; numbers 1 to 4 and 20 have all three 0. Counts, and whatever else is found, are 0 in a refusal
+ * (a height alone is as given). Unless said otherwise, a refusal leaves everything lent as it was.
+ */
+
+typedef struct { uint16_t number, level, involution, dart; } zg_refusal;                                        /* 0 0 0 0: accepted */
+typedef struct { uint16_t number, level, involution, dart; uint32_t count; uint16_t neighbour; } zg_reading;
+typedef struct { uint16_t number, level, involution, dart; uint32_t count; } zg_count;                          /* an unfolding's total; survivors */
+typedef struct { uint16_t number, level, involution, dart; uint8_t height; } zg_height;                         /* after an add; as given in a refusal */
+typedef struct { uint16_t number, level, involution, dart; uint8_t unfolded; uint16_t start, length; } zg_part; /* unfolded 0: a part of base, 1: of unfolded; 0 0 0 in a refusal */
+typedef struct { uint16_t number, level, involution, dart; uint8_t n, h; uint16_t darts; } zg_record;           /* 0 0 0 in a refusal */
+
+/*
+ * Checks a base. Lent to read: rows, (n+1)N.
+ * Refused 1, 2, 4, 5, 6, 7: 5 and 6 name the row (involution) and the dart, 7 the smaller row i and the dart.
+ */
+zg_refusal zg_check_base(uint8_t n, uint16_t darts, const uint16_t *rows, size_t rows_len);
+
+/*
+ * Checks a whole pyramid. Lent to read: rows, (n+1)N; lambda, N; delta, N. Lent to write: table, (n+1)N.
+ * Accepted: table holds the explicit level h.
+ * Refused 1, 2, 3, 4, 5, 6, 7 (as zg_check_base), 8 (the dart), then for each kernel in rising order 9 (the kernel's
+ * level, the involution that leaves the kernel, the dart) and 10 (the kernel's level, dimension + 1, the dart).
+ * After 9 or 10 table holds the explicit level whose kernel failed; after any other number it is untouched.
+ */
+zg_refusal zg_check(uint8_t n, uint16_t darts, uint8_t h, const uint16_t *rows, size_t rows_len, const uint8_t *lambda, size_t lambda_len, const uint8_t *delta, size_t delta_len, uint16_t *table, size_t table_len);
+
+/*
+ * Adds a level on top: the same check, with marks as kernel h. Lent to read: rows, (n+1)N; marks, N (a dart not on
+ * level h must have 255). Lent to change: lambda, N; delta, N. Lent to write: table, (n+1)N.
+ * Accepted: height is h + 1; darts marked have Lambda = h and their mark as Delta, the other survivors Lambda = h + 1;
+ * table holds the new top level.
+ * Refused 1, 2, 3, 4, 20, 5, 6, 7, 8, 9, 10: as zg_check; 8 for lambda and delta (level 0) comes before 8 for marks
+ * (level h). height is then h as given. After 9 or 10 table holds the explicit level whose kernel failed, which may be
+ * any from 0 to h, and lambda and delta are untouched; after any other number all is.
+ */
+zg_height zg_add(uint8_t n, uint16_t darts, uint8_t h, const uint16_t *rows, size_t rows_len, uint8_t *lambda, size_t lambda_len, uint8_t *delta, size_t delta_len, const uint8_t *marks, size_t marks_len, uint16_t *table, size_t table_len);
+
+/*
+ * Reads the mark row of a level back out of Lambda and Delta. Lent to read: lambda, N; delta, N. Lent to write:
+ * marks, N.
+ * Accepted: marks hold Delta where Lambda is that level, else 255; for level h 255 throughout.
+ * Refused 1, 2, 3, 4, 11 (the level asked), 8 (the level asked, 0, the dart).
+ */
+zg_refusal zg_marks(uint8_t n, uint16_t darts, uint8_t h, const uint8_t *lambda, size_t lambda_len, const uint8_t *delta, size_t delta_len, uint8_t level, uint8_t *marks, size_t marks_len);
+
+/*
+ * Reads one neighbour on a level by the direct walk, on any tables, checked before or not. Lent to read: rows,
+ * (n+1)N; lambda, N; delta, N.
+ * Accepted: neighbour, and count, the base entries read; at most 1 + 2N.
+ * Refused 1, 2, 3, 4, 11, 13, 12 (N or more), then for the starting dart 8 and 12, then at each read 15, 5, 8, 14.
+ * level is the one asked. 11, 13, 12 and the start's 8 have the involution and the dart asked, so has 15; 5 has the
+ * row read and the dart whose entry it is, 8 and 14 the row read last and the dart met.
+ */
+zg_reading zg_read(uint8_t n, uint16_t darts, uint8_t h, const uint16_t *rows, size_t rows_len, const uint8_t *lambda, size_t lambda_len, const uint8_t *delta, size_t delta_len, uint8_t level, uint8_t involution, uint16_t dart);
+
+/*
+ * The same question answered level by level, each step a reading one level lower, down to the base. Lent, returned
+ * and refused as zg_read, with one difference: 14 is also given where a dart on the way isn't in the kernel below the
+ * level being read with the dimension of the row walked by. Where it isn't refused 14, all fields are those of zg_read.
+ */
+zg_reading zg_read_by_levels(uint8_t n, uint16_t darts, uint8_t h, const uint16_t *rows, size_t rows_len, const uint8_t *lambda, size_t lambda_len, const uint8_t *delta, size_t delta_len, uint8_t level, uint8_t involution, uint16_t dart);
+
+/*
+ * Unfolds a whole level by direct walks. Lent to read: rows, (n+1)N; lambda, N; delta, N. Lent to write: table,
+ * (n+1)N.
+ * Accepted: table holds the explicit level; count is the total of its readings' counts.
+ * Refused 1, 2, 3, 4, 11 (the level asked), 8 over all darts (the level asked, 0, the dart), then the walks, by
+ * involution, then dart, each refused 15, 5, 14 as zg_read.
+ * After 15, 5 or 14 table is 65,535 throughout; after any other number it is untouched.
+ */
+zg_count zg_unfold(uint8_t n, uint16_t darts, uint8_t h, const uint16_t *rows, size_t rows_len, const uint8_t *lambda, size_t lambda_len, const uint8_t *delta, size_t delta_len, uint8_t level, uint16_t *table, size_t table_len);
+
+/*
+ * Says where a row of a level lies; no entry is read or copied. Lent: base, (n+1)N, the base rows; unfolded, (n+1)N,
+ * the level as zg_unfold left it. Both are measured, at level 0 too.
+ * Accepted: the row is the length entries from entry start of base (unfolded 0, for level 0) or of unfolded
+ * (unfolded 1, for any other level): start is involution times N, length N.
+ * Refused 1, 2, 3, 4, 11, 13 (both with the level and the involution asked): an empty part of base, 0 0 0.
+ */
+zg_part zg_row(uint8_t n, uint16_t darts, uint8_t h, const uint16_t *base, size_t base_len, const uint16_t *unfolded, size_t unfolded_len, uint8_t level, uint8_t involution);
+
+/*
+ * The survivor words of a level. Lent to read: lambda, N. Lent to write: words, 64.
+ * Accepted: the bits of the darts with Lambda >= level are 1, all others 0; count is the number of ones.
+ * Refused 2, 3, 4, 11 (the level asked), 8 (only Lambda > h: the level asked, 0, the dart).
+ */
+zg_count zg_survivors(uint16_t darts, uint8_t h, const uint8_t *lambda, size_t lambda_len, uint8_t level, uint64_t *words, size_t words_len);
+
+/*
+ * Marks the removable cells of one dimension on an explicit level. Lent to read: table, (n+1)N. Lent to write:
+ * marks, N.
+ * Accepted: the darts of every removable cell of that dimension have it as their mark, all others 255.
+ * Refused 1, 2, 4, 13 (involution is the dimension asked), 5, 6, 7 (as zg_check_base, for darts that are present;
+ * a dart is absent exactly where row 0 holds 65,535, and 5 also names an absent dart with another entry).
+ */
+zg_refusal zg_mark(uint8_t n, uint16_t darts, const uint16_t *table, size_t table_len, uint8_t dimension, uint8_t *marks, size_t marks_len);
+
+/*
+ * Takes a record into lent memory; its values are not checked (zg_check does that). Lent to read: bytes, the record,
+ * of any length. Lent to write: rows, (n+1)N or more; lambda, N or more; delta, N or more. 20,480, 4,096 and 4,096
+ * entries are enough for every record.
+ * Accepted: n, h, darts, and the record's rows, Lambda and Delta at the front; the rest of a longer slice is untouched.
+ * Refused 16, 17, 18 as the fields come (dart is the byte offset where the field starts), 1, 2, 3 after the header, 19
+ * (dart is the offset of the first byte too many), 4.
+ */
+zg_record zg_take(const uint8_t *bytes, size_t bytes_len, uint16_t *rows, size_t rows_len, uint8_t *lambda, size_t lambda_len, uint8_t *delta, size_t delta_len);
+
+#ifdef __cplusplus
+}
+#endif
+
+#endif

@@ -1,0 +1,309 @@
+/* One call through the interface, every lent buffer between guards. */
+#define _GNU_SOURCE
+#include "call.h"
+#include "zompelgors.h"
+
+#include <stdbool.h>
+#include <stdio.h>
+#include <stdlib.h>
+#include <string.h>
+#include <sys/mman.h>
+#include <unistd.h>
+
+enum { GUARD = 64, CANARY = 0xA5, MOST_DARTS = 4096, MOST_ENTRIES = 5 * MOST_DARTS };
+
+const char *const job_names[JOBS] = {
+    "check_base", "check", "add", "marks", "read", "bylevels", "unfold", "row", "survivors", "mark", "take", "levels"
+};
+const char *const case_forms[JOBS] = {
+    "nDR", "nDhRLET", "nDhRLEMT", "nDhLElM", "nDhRLElid", "nDhRLElid", "nDhRLElT", "nDhRTli", "DhLlW", "nDTiM",
+    "BRLE", "B",
+};
+const char *const answer_forms[JOBS] = {"", "T", "LET", "M", "", "", "T", "", "W", "M", "RLE", ""};
+
+enum place call_place = BETWEEN_CANARIES;
+void (*call_failed)(void);
+
+/* One buffer as the library sees it: a copy of the caller's, in a zone with a page without access on either side. */
+struct lent {
+    const char *name;
+    unsigned char *zone, *memory;
+    size_t capacity, bytes;
+    void *given;
+    bool constant, in_use;
+};
+
+enum { IN_ROWS, IN_TABLE, IN_LAMBDA, IN_DELTA, IN_MARKS, IN_BYTES, IN_WORDS, LENTS };
+
+static struct lent lents[LENTS] = {
+    {.name = "rows"}, {.name = "table"}, {.name = "lambda"}, {.name = "delta"},
+    {.name = "marks"}, {.name = "bytes"}, {.name = "words"},
+};
+
+static void fail(const struct call *c, const char *what, const char *name)
+{
+    fprintf(stderr, "%s: %s %s\n", job_names[c->job], what, name);
+    if (call_failed)
+        call_failed();
+    exit(2);
+}
+
+static void make_zone(struct lent *l, size_t wanted)
+{
+    size_t page = (size_t)sysconf(_SC_PAGESIZE);
+    if (l->zone)
+        munmap(l->zone - page, l->capacity + 2 * page);
+    l->capacity = (wanted + page - 1) / page * page;
+    unsigned char *all = mmap(NULL, l->capacity + 2 * page, PROT_NONE, MAP_PRIVATE | MAP_ANONYMOUS, -1, 0);
+    if (all == MAP_FAILED || mprotect(all + page, l->capacity, PROT_READ | PROT_WRITE)) {
+        perror("mmap");
+        exit(2);
+    }
+    l->zone = all + page;
+}
+
+static size_t offset_in_zone(const struct lent *l)
+{
+    if (call_place == BEFORE_A_HOLE)
+        return l->capacity - l->bytes;
+    return call_place == BEHIND_A_HOLE ? 0 : GUARD;
+}
+
+static void *lend(int which, const void *given, size_t count, size_t size, bool constant)
+{
+    struct lent *l = &lents[which];
+    l->bytes = count * size;
+    if (l->capacity < l->bytes + 2 * GUARD)
+        make_zone(l, l->bytes + 2 * GUARD);
+    l->given = (void *)given;
+    l->constant = constant;
+    l->in_use = true;
+    l->memory = l->zone + offset_in_zone(l);
+    if (l->memory >= l->zone + GUARD)
+        memset(l->memory - GUARD, CANARY, GUARD);
+    if (l->memory + l->bytes + GUARD <= l->zone + l->capacity)
+        memset(l->memory + l->bytes, CANARY, GUARD);
+    if (l->bytes)
+        memcpy(l->memory, given, l->bytes);
+    return l->memory;
+}
+
+static const uint16_t *rows_in(const struct call *c) { return lend(IN_ROWS, c->rows, c->rows_len, 2, true); }
+static uint16_t *rows_out(const struct call *c) { return lend(IN_ROWS, c->rows, c->rows_len, 2, false); }
+static const uint16_t *table_in(const struct call *c) { return lend(IN_TABLE, c->table, c->table_len, 2, true); }
+static uint16_t *table_out(const struct call *c) { return lend(IN_TABLE, c->table, c->table_len, 2, false); }
+static const uint8_t *lambda_in(const struct call *c) { return lend(IN_LAMBDA, c->lambda, c->lambda_len, 1, true); }
+static uint8_t *lambda_out(const struct call *c) { return lend(IN_LAMBDA, c->lambda, c->lambda_len, 1, false); }
+static const uint8_t *delta_in(const struct call *c) { return lend(IN_DELTA, c->delta, c->delta_len, 1, true); }
+static uint8_t *delta_out(const struct call *c) { return lend(IN_DELTA, c->delta, c->delta_len, 1, false); }
+static const uint8_t *marks_in(const struct call *c) { return lend(IN_MARKS, c->marks, c->marks_len, 1, true); }
+static uint8_t *marks_out(const struct call *c) { return lend(IN_MARKS, c->marks, c->marks_len, 1, false); }
+static const uint8_t *bytes_in(const struct call *c) { return lend(IN_BYTES, c->bytes, c->bytes_len, 1, true); }
+static uint64_t *words_out(const struct call *c) { return lend(IN_WORDS, c->words, c->words_len, 8, false); }
+
+static bool filled(const unsigned char *guard)
+{
+    for (int i = 0; i < GUARD; i++)
+        if (guard[i] != CANARY)
+            return false;
+    return true;
+}
+
+static void take_back(const struct call *c)
+{
+    for (struct lent *l = lents; l < lents + LENTS; l++) {
+        if (!l->in_use)
+            continue;
+        l->in_use = false;
+        if (l->memory >= l->zone + GUARD && !filled(l->memory - GUARD))
+            fail(c, "written before", l->name);
+        if (l->memory + l->bytes + GUARD <= l->zone + l->capacity && !filled(l->memory + l->bytes))
+            fail(c, "written behind", l->name);
+        if (l->constant && l->bytes && memcmp(l->memory, l->given, l->bytes))
+            fail(c, "written into const", l->name);
+        if (!l->constant && l->bytes)
+            memcpy(l->given, l->memory, l->bytes);
+    }
+}
+
+/* The structs returned have the same first four fields. */
+#define TAKE_REFUSAL(c, r) \
+    do { \
+        (c)->refusal[0] = (r).number; \
+        (c)->refusal[1] = (r).level; \
+        (c)->refusal[2] = (r).involution; \
+        (c)->refusal[3] = (r).dart; \
+    } while (0)
+
+static void take_found(struct call *c, unsigned founds, unsigned a, unsigned b, unsigned d)
+{
+    c->founds = founds;
+    c->found[0] = a;
+    c->found[1] = b;
+    c->found[2] = d;
+}
+
+static void call_check_base(struct call *c)
+{
+    const uint16_t *rows = rows_in(c);
+    zg_refusal r = zg_check_base((uint8_t)c->n, (uint16_t)c->darts, rows, c->rows_len);
+    TAKE_REFUSAL(c, r);
+}
+
+static void call_check(struct call *c)
+{
+    const uint16_t *rows = rows_in(c);
+    const uint8_t *lambda = lambda_in(c), *delta = delta_in(c);
+    uint16_t *table = table_out(c);
+    zg_refusal r = zg_check((uint8_t)c->n, (uint16_t)c->darts, (uint8_t)c->h, rows, c->rows_len, lambda, c->lambda_len,
+                            delta, c->delta_len, table, c->table_len);
+    TAKE_REFUSAL(c, r);
+}
+
+static void call_add(struct call *c)
+{
+    const uint16_t *rows = rows_in(c);
+    uint8_t *lambda = lambda_out(c), *delta = delta_out(c);
+    const uint8_t *marks = marks_in(c);
+    uint16_t *table = table_out(c);
+    zg_height r = zg_add((uint8_t)c->n, (uint16_t)c->darts, (uint8_t)c->h, rows, c->rows_len, lambda, c->lambda_len,
+                         delta, c->delta_len, marks, c->marks_len, table, c->table_len);
+    TAKE_REFUSAL(c, r);
+    take_found(c, 1, r.height, 0, 0);
+}
+
+static void call_marks(struct call *c)
+{
+    const uint8_t *lambda = lambda_in(c), *delta = delta_in(c);
+    uint8_t *marks = marks_out(c);
+    zg_refusal r = zg_marks((uint8_t)c->n, (uint16_t)c->darts, (uint8_t)c->h, lambda, c->lambda_len, delta,
+                            c->delta_len, (uint8_t)c->level, marks, c->marks_len);
+    TAKE_REFUSAL(c, r);
+}
+
+static void call_reading(struct call *c)
+{
+    const uint16_t *rows = rows_in(c);
+    const uint8_t *lambda = lambda_in(c), *delta = delta_in(c);
+    zg_reading r = (c->job == READ ? zg_read : zg_read_by_levels)(
+        (uint8_t)c->n, (uint16_t)c->darts, (uint8_t)c->h, rows, c->rows_len, lambda, c->lambda_len, delta,
+        c->delta_len, (uint8_t)c->level, (uint8_t)c->involution, (uint16_t)c->dart);
+    TAKE_REFUSAL(c, r);
+    take_found(c, 2, r.neighbour, r.count, 0);
+}
+
+static void call_unfold(struct call *c)
+{
+    const uint16_t *rows = rows_in(c);
+    const uint8_t *lambda = lambda_in(c), *delta = delta_in(c);
+    uint16_t *table = table_out(c);
+    zg_count r = zg_unfold((uint8_t)c->n, (uint16_t)c->darts, (uint8_t)c->h, rows, c->rows_len, lambda, c->lambda_len,
+                           delta, c->delta_len, (uint8_t)c->level, table, c->table_len);
+    TAKE_REFUSAL(c, r);
+    take_found(c, 1, r.count, 0, 0);
+}
+
+static void call_row(struct call *c)
+{
+    const uint16_t *base = rows_in(c), *unfolded = table_in(c);
+    zg_part r = zg_row((uint8_t)c->n, (uint16_t)c->darts, (uint8_t)c->h, base, c->rows_len, unfolded, c->table_len,
+                       (uint8_t)c->level, (uint8_t)c->involution);
+    TAKE_REFUSAL(c, r);
+    take_found(c, 3, r.unfolded, r.start, r.length);
+}
+
+static void call_survivors(struct call *c)
+{
+    const uint8_t *lambda = lambda_in(c);
+    uint64_t *words = words_out(c);
+    zg_count r = zg_survivors((uint16_t)c->darts, (uint8_t)c->h, lambda, c->lambda_len, (uint8_t)c->level, words,
+                              c->words_len);
+    TAKE_REFUSAL(c, r);
+    take_found(c, 1, r.count, 0, 0);
+}
+
+static void call_mark(struct call *c)
+{
+    const uint16_t *table = table_in(c);
+    uint8_t *marks = marks_out(c);
+    zg_refusal r = zg_mark((uint8_t)c->n, (uint16_t)c->darts, table, c->table_len, (uint8_t)c->involution, marks,
+                           c->marks_len);
+    TAKE_REFUSAL(c, r);
+}
+
+static void call_take(struct call *c)
+{
+    const uint8_t *bytes = bytes_in(c);
+    uint16_t *rows = rows_out(c);
+    uint8_t *lambda = lambda_out(c), *delta = delta_out(c);
+    zg_record r = zg_take(bytes, c->bytes_len, rows, c->rows_len, lambda, c->lambda_len, delta, c->delta_len);
+    TAKE_REFUSAL(c, r);
+    take_found(c, 3, r.n, r.h, r.darts);
+}
+
+static bool say_refusal(struct call *levels, const struct call *step)
+{
+    memcpy(levels->refusal, step->refusal, sizeof step->refusal);
+    const unsigned *r = step->refusal;
+    if (r[0])
+        sprintf(levels->text, "refused %u %u %u %u", r[0], r[1], r[2], r[3]);
+    return r[0] != 0;
+}
+
+/* One level's line; the number of survivors comes from the survivor words. */
+static bool say_level(struct call *levels, struct call *step, unsigned level)
+{
+    uint64_t words[64] = {0};
+    step->level = level;
+    step->job = UNFOLD;
+    call_job(step);
+    if (say_refusal(levels, step))
+        return false;
+    unsigned total = step->found[0];
+    step->words = words;
+    step->words_len = 64;
+    step->job = SURVIVORS;
+    call_job(step);
+    if (say_refusal(levels, step))
+        return false;
+    sprintf(levels->text + strlen(levels->text), " / %u %u %u", level, step->found[0], total);
+    return true;
+}
+
+/* What the program levels does with a record: take, check, then unfold each level. */
+static void call_levels(struct call *c)
+{
+    static uint16_t rows[MOST_ENTRIES], table[MOST_ENTRIES];
+    static uint8_t lambda[MOST_DARTS], delta[MOST_DARTS];
+    struct call step = {.job = TAKE, .bytes = c->bytes, .bytes_len = c->bytes_len, .rows = rows, .table = table,
+                        .lambda = lambda, .delta = delta, .rows_len = MOST_ENTRIES, .lambda_len = MOST_DARTS,
+                        .delta_len = MOST_DARTS};
+    call_job(&step);
+    if (say_refusal(c, &step))
+        return;
+    step.n = step.found[0];
+    step.h = step.found[1];
+    step.darts = step.found[2];
+    step.rows_len = step.table_len = (size_t)(step.n + 1) * step.darts;
+    step.lambda_len = step.delta_len = step.darts;
+    step.job = CHECK;
+    call_job(&step);
+    if (say_refusal(c, &step))
+        return;
+    sprintf(c->text, "%u %u %u", step.n, step.darts, step.h);
+    for (unsigned level = 0; level <= step.h; level++)
+        if (!say_level(c, &step, level))
+            return;
+}
+
+void call_job(struct call *c)
+{
+    static void (*const calls[JOBS])(struct call *) = {
+        call_check_base, call_check, call_add, call_marks, call_reading, call_reading, call_unfold, call_row,
+        call_survivors, call_mark, call_take, call_levels,
+    };
+    c->founds = 0;
+    c->text[0] = 0;
+    calls[c->job](c);
+    take_back(c);
+}

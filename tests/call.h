@@ -1,0 +1,55 @@
+/* One call through the interface, every lent buffer between guards. */
+#ifndef CALL_H
+#define CALL_H
+
+#include <stddef.h>
+#include <stdint.h>
+
+#ifdef __cplusplus
+extern "C" {
+#endif
+
+enum job {
+    CHECK_BASE, CHECK, ADD, MARKS, READ, BY_LEVELS, UNFOLD, ROW, SURVIVORS, MARK, TAKE, LEVELS, JOBS
+};
+
+/*
+ * How the vectors write the jobs, in the order of enum job: their names, what a case's line holds, and what stands in
+ * the answer behind the refusal and the numbers found. n, N (D), h; rows (R), table (T), lambda (L), delta (E),
+ * marks (M), words (W), bytes (B); level (l), involution or dimension (i), dart (d).
+ */
+extern const char *const job_names[JOBS], *const case_forms[JOBS], *const answer_forms[JOBS];
+
+/*
+ * What is lent and asked, and after call_job what came of it. A field that the job doesn't take is not looked at. For
+ * ROW rows are the base rows and table is the unfolded level; for MARK table is the level and involution the dimension.
+ */
+struct call {
+    enum job job;
+    unsigned n, darts, h, level, involution, dart;
+    uint16_t *rows, *table;
+    uint8_t *lambda, *delta, *marks, *bytes;
+    uint64_t *words;
+    size_t rows_len, table_len, lambda_len, delta_len, marks_len, bytes_len, words_len;
+
+    unsigned refusal[4]; /* number, level, involution, dart */
+    unsigned found[3];   /* in the order of the vectors' answers */
+    unsigned founds;     /* how many of them the job has */
+    char text[2048];     /* LEVELS: its lines, joined by " / " */
+};
+
+/* Where a buffer lies: with 64 filled bytes on both sides, or with its end or its beginning at an unreadable page. */
+enum place { BETWEEN_CANARIES, BEFORE_A_HOLE, BEHIND_A_HOLE, PLACES };
+extern enum place call_place;
+
+/* Makes the call; ends the program with a message if anything but memory lent to write has changed. */
+void call_job(struct call *c);
+
+/* If set, called before the program is ended so. */
+extern void (*call_failed)(void);
+
+#ifdef __cplusplus
+}
+#endif
+
+#endif

@@ -1,0 +1,328 @@
+// Compares levels with CGAL's Generalized_map, which removes the same cells one by one.
+//
+// Compiled with -DWITH_LIBRARY the levels come from the library, else from the independent implementation.
+#include "maps.hpp"
+#ifdef WITH_LIBRARY
+#include "zompelgors.h"
+#endif
+
+#include <CGAL/Generalized_map.h>
+
+#include <cstdio>
+#include <cstdlib>
+#include <map>
+
+namespace {
+
+using independent::Bytes;
+using independent::Entries;
+using independent::Map;
+using maps::Cell;
+using maps::Pyramid;
+using maps::Random;
+
+// ---------------------------------------------------------------- where the levels come from
+
+#ifdef WITH_LIBRARY
+
+unsigned add_level(Pyramid& p, const Bytes& marks, Entries& table)
+{
+    const zg_height r = zg_add(std::uint8_t(p.n), std::uint16_t(p.darts), std::uint8_t(p.h), p.rows.data(),
+                               p.rows.size(), p.lambda.data(), p.lambda.size(), p.delta.data(), p.delta.size(),
+                               marks.data(), marks.size(), table.data(), table.size());
+    p.h = r.height;
+    return r.number;
+}
+
+unsigned check_pyramid(const Pyramid& p, Entries& table)
+{
+    return zg_check(std::uint8_t(p.n), std::uint16_t(p.darts), std::uint8_t(p.h), p.rows.data(), p.rows.size(),
+                    p.lambda.data(), p.lambda.size(), p.delta.data(), p.delta.size(), table.data(), table.size())
+        .number;
+}
+
+unsigned unfold_level(const Pyramid& p, unsigned level, Entries& table)
+{
+    return zg_unfold(std::uint8_t(p.n), std::uint16_t(p.darts), std::uint8_t(p.h), p.rows.data(), p.rows.size(),
+                     p.lambda.data(), p.lambda.size(), p.delta.data(), p.delta.size(), std::uint8_t(level),
+                     table.data(), table.size())
+        .number;
+}
+
+unsigned mark_cells(const Pyramid& p, const Entries& table, unsigned dimension, Bytes& marks)
+{
+    return zg_mark(std::uint8_t(p.n), std::uint16_t(p.darts), table.data(), table.size(), std::uint8_t(dimension),
+                   marks.data(), marks.size())
+        .number;
+}
+
+#else
+
+template <class Job> unsigned number_of(Job job)
+{
+    try {
+        job();
+    } catch (const independent::Refusal& r) {
+        return r.number;
+    }
+    return 0;
+}
+
+unsigned add_level(Pyramid& p, const Bytes& marks, Entries& table)
+{
+    return number_of([&] { p.h = independent::add(p.n, p.darts, p.h, p.rows, p.lambda, p.delta, marks, table); });
+}
+
+unsigned check_pyramid(const Pyramid& p, Entries& table)
+{
+    return number_of([&] { independent::check(p.n, p.darts, p.h, p.rows, p.lambda, p.delta, table); });
+}
+
+unsigned unfold_level(const Pyramid& p, unsigned level, Entries& table)
+{
+    return number_of([&] { independent::unfold(p.n, p.darts, p.h, p.rows, p.lambda, p.delta, level, table); });
+}
+
+unsigned mark_cells(const Pyramid& p, const Entries& table, unsigned dimension, Bytes& marks)
+{
+    return number_of([&] { independent::mark(p.n, p.darts, table, dimension, marks); });
+}
+
+#endif
+
+// ---------------------------------------------------------------- CGAL's map
+
+// The same map in CGAL, with the darts' numbers.
+template <unsigned n> class Twin {
+    using GMap = CGAL::Generalized_map<n>;
+    using Dart = typename GMap::Dart_handle;
+
+public:
+    explicit Twin(const Map& m) : darts(m.darts), handles(m.darts)
+    {
+        for (unsigned d = 0; d < darts; d++) {
+            handles[d] = gmap.create_dart();
+            numbers[handles[d]] = d;
+        }
+        for (unsigned i = 0; i <= n; i++)
+            for (unsigned d = 0; d < darts; d++)
+                gmap.basic_link_alpha(handles[d], handles[m.a[i][d]], i);
+    }
+
+    bool valid() const { return gmap.is_valid(); }
+
+    bool removable(const Cell& cell) const
+    {
+        switch (cell.dimension) {
+        case 0: return removable<0>(cell);
+        case 1: return removable<1>(cell);
+        case 2: return removable<2>(cell);
+        default: return removable<3>(cell);
+        }
+    }
+
+    // Whether CGAL's cell has our darts, each once.
+    bool lists(const Cell& cell)
+    {
+        switch (cell.dimension) {
+        case 0: return lists<0>(cell);
+        case 1: return lists<1>(cell);
+        case 2: return lists<2>(cell);
+        default: return lists<3>(cell);
+        }
+    }
+
+    // Two involutions that commute take a dart of the cell to the same other dart. CGAL supposes that this doesn't
+    // occur: it then goes through some cells twice, and fails in removing them.
+    bool folded(const Cell& cell)
+    {
+        for (const unsigned d : cell.darts)
+            for (unsigned i = 0; i + 2 <= n; i++)
+                for (unsigned j = i + 2; j <= n; j++)
+                    if (gmap.alpha(handles[d], i) == gmap.alpha(handles[d], j) && !gmap.is_free(handles[d], i))
+                        return true;
+        return false;
+    }
+
+    // False if CGAL removes another number of darts.
+    bool remove(const Cell& cell)
+    {
+        switch (cell.dimension) {
+        case 0: return remove<0>(cell);
+        case 1: return remove<1>(cell);
+        case 2: return remove<2>(cell);
+        default: return remove<3>(cell);
+        }
+    }
+
+    Entries table()
+    {
+        Entries rows(std::size_t(n + 1) * darts, independent::none);
+        for (unsigned i = 0; i <= n; i++)
+            for (const auto& dart : numbers)
+                rows[std::size_t(i) * darts + dart.second] = std::uint16_t(numbers.at(gmap.alpha(dart.first, i)));
+        return rows;
+    }
+
+private:
+    template <unsigned i> bool removable(const Cell& cell) const
+    {
+        if constexpr (i < n)
+            return gmap.template is_removable<i>(handles[cell.darts[0]]);
+        else
+            return false;
+    }
+
+    template <unsigned i> bool lists(const Cell& cell)
+    {
+        std::vector<unsigned> there;
+        if constexpr (i < n) {
+            const auto mark = gmap.get_new_mark();
+            CGAL::GMap_dart_iterator_basic_of_cell<GMap, i> it(gmap, handles[cell.darts[0]], mark);
+            for (; it.cont(); ++it) {
+                there.push_back(numbers.at(it));
+                gmap.mark(it, mark);
+            }
+            gmap.free_mark(mark);
+        }
+        std::sort(there.begin(), there.end());
+        return there == cell.darts;
+    }
+
+    template <unsigned i> bool remove(const Cell& cell)
+    {
+        if constexpr (i < n) {
+            for (const unsigned d : cell.darts)
+                numbers.erase(handles[d]);
+            return gmap.template remove_cell<i>(handles[cell.darts[0]]) == cell.darts.size();
+        } else
+            return false;
+    }
+
+    unsigned darts;
+    GMap gmap;
+    std::vector<Dart> handles;
+    std::map<Dart, unsigned> numbers; // of the darts still there
+};
+
+// ---------------------------------------------------------------- the comparison
+
+struct Tally {
+    unsigned long pyramids = 0, levels = 0, removed = 0, removable = 0, not_removable = 0, left_out = 0, most_darts = 0;
+};
+
+[[noreturn]] void differs(const char* what, const Pyramid& p)
+{
+    std::printf("cgal: %s; dimension %u, %u darts, height %u\n", what, p.n, p.darts, p.h);
+    std::exit(1);
+}
+
+void demand(bool same, const char* what, const Pyramid& p)
+{
+    if (!same)
+        differs(what, p);
+}
+
+Bytes marks_of(const Cell& cell, unsigned darts)
+{
+    Bytes marks(darts, 255);
+    for (const unsigned d : cell.darts)
+        marks[d] = std::uint8_t(cell.dimension);
+    return marks;
+}
+
+// The marking job and number 10 against CGAL's verdict on each cell.
+template <unsigned n>
+void compare_verdicts(Random& r, const Pyramid& p, const Entries& table, const std::vector<Cell>& all,
+                      const Twin<n>& twin, Tally& tally)
+{
+    std::vector<Bytes> marks(n, Bytes(p.darts));
+    for (unsigned dimension = 0; dimension < n; dimension++)
+        demand(mark_cells(p, table, dimension, marks[dimension]) == 0, "a level is refused by marking", p);
+    for (const Cell& cell : all) {
+        const bool verdict = twin.removable(cell);
+        for (const unsigned d : cell.darts)
+            demand(marks[cell.dimension][d] == (verdict ? cell.dimension : 255), "another cell is removable", p);
+        (verdict ? tally.removable : tally.not_removable)++;
+        if (all.size() > 12 && !r.chance(10))
+            continue;
+        Pyramid higher = p;
+        Entries top(table.size());
+        const unsigned number = add_level(higher, marks_of(cell, p.darts), top);
+        demand(number == (verdict ? 0 : 10), "number 10 for another cell", p);
+    }
+}
+
+// Disjoint removable cells by CGAL's verdict, removed there in any order; returns their marks.
+template <unsigned n>
+Bytes remove_some(Random& r, const Pyramid& p, std::vector<Cell> all, Twin<n>& twin, Tally& tally)
+{
+    const unsigned percent = r.between(3, 50);
+    independent::Kernel kernel(p.darts, independent::stay);
+    std::vector<Cell> chosen;
+    r.shuffle(all);
+    for (const Cell& cell : all)
+        if (r.chance(percent) && twin.removable(cell)) {
+            const bool same = twin.lists(cell);
+            demand(same || twin.folded(cell), "a cell has other darts", p);
+            tally.left_out += !same;
+            if (same && maps::put(kernel, cell))
+                chosen.push_back(cell);
+        }
+    r.shuffle(chosen);
+    for (const Cell& cell : chosen) {
+        demand(twin.removable(cell) && twin.lists(cell), "a cell is no longer removable beside others", p);
+        demand(twin.remove(cell), "another cell was removed", p);
+        tally.removed++;
+    }
+    return Bytes(kernel.begin(), kernel.end());
+}
+
+template <unsigned n> void compare_pyramid(Random& r, Tally& tally)
+{
+    const unsigned darts = r.chance(50) ? r.between(1, 60) : r.between(40, n == 4 ? 800 : 400);
+    const Map base = maps::random_map(r, n, darts);
+    Pyramid p = maps::begin(base);
+    Twin<n> twin(base);
+    demand(twin.valid(), "CGAL finds the base not valid", p);
+    std::vector<Entries> levels{twin.table()};
+    for (unsigned height = r.between(1, 6); p.h < height;) {
+        const std::vector<Cell> all = maps::cells_to_remove(Map(n, p.darts, levels.back()));
+        compare_verdicts<n>(r, p, levels.back(), all, twin, tally);
+        const Bytes marks = remove_some<n>(r, p, all, twin, tally);
+        Entries table(p.rows.size());
+        demand(add_level(p, marks, table) == 0, "a kernel is refused", p);
+        levels.push_back(twin.table());
+        demand(table == levels.back(), "the level added is another", p);
+    }
+    Entries table(p.rows.size());
+    demand(check_pyramid(p, table) == 0 && table == levels.back(), "the top level of the check is another", p);
+    for (unsigned l = 0; l <= p.h; l++)
+        demand(unfold_level(p, l, table) == 0 && table == levels[l], "an unfolded level is another", p);
+    tally.pyramids++;
+    tally.levels += levels.size();
+    tally.most_darts = std::max<unsigned long>(tally.most_darts, p.darts);
+}
+
+} // namespace
+
+int main(int argc, char** argv)
+{
+    if (argc != 3) {
+        std::fprintf(stderr, "cgal SEED PYRAMIDS\n");
+        return 2;
+    }
+    Random r(std::strtoull(argv[1], nullptr, 10));
+    Tally tally;
+    for (unsigned long k = std::strtoul(argv[2], nullptr, 10); k; k--)
+        switch (r.between(2, 4)) {
+        case 2: compare_pyramid<2>(r, tally); break;
+        case 3: compare_pyramid<3>(r, tally); break;
+        default: compare_pyramid<4>(r, tally);
+        }
+    std::printf("%lu pyramids of dimension 2 to 4 (to %lu darts), %lu levels, %lu cells removed, verdicts on %lu "
+                "removable and %lu other cells, %lu folded cells left out: 0 differences\n",
+                tally.pyramids, tally.most_darts, tally.levels, tally.removed, tally.removable, tally.not_removable,
+                tally.left_out);
+    return 0;
+}

@@ -1,0 +1,597 @@
+// All jobs of document 01, written from its definitions on explicit maps, without regard to speed.
+#ifndef INDEPENDENT_HPP
+#define INDEPENDENT_HPP
+
+#include <cassert>
+#include <cstddef>
+#include <cstdint>
+#include <numeric>
+#include <string>
+#include <vector>
+
+namespace independent {
+
+using Entries = std::vector<std::uint16_t>;
+using Bytes = std::vector<std::uint8_t>;
+using Words = std::vector<std::uint64_t>;
+
+constexpr unsigned none = 65535; // every row entry of a dart that is not on an explicit level
+constexpr unsigned stay = 255;   // in a mark row
+
+// Thrown by the jobs.
+struct Refusal {
+    unsigned number = 0, level = 0, involution = 0, dart = 0;
+};
+
+inline void demand(bool holds, unsigned number, unsigned level = 0, unsigned involution = 0, unsigned dart = 0)
+{
+    if (!holds)
+        throw Refusal{number, level, involution, dart};
+}
+
+// ---------------------------------------------------------------- numbers 1 to 4
+
+inline void demand_dimension(unsigned n) { demand(n >= 1 && n <= 4, 1); }
+inline void demand_darts(unsigned darts) { demand(darts >= 1 && darts <= 4096, 2); }
+inline void demand_height(unsigned h) { demand(h <= 32, 3); }
+inline void demand_length(std::size_t length, std::size_t due) { demand(length == due, 4); }
+
+// ---------------------------------------------------------------- explicit maps
+
+// The darts of one level and their involutions: a[i][d], `none` where d is absent.
+struct Map {
+    unsigned n = 0, darts = 0;
+    std::vector<std::vector<unsigned>> a;
+
+    Map(unsigned n_, unsigned darts_) : n(n_), darts(darts_), a(n_ + 1, std::vector<unsigned>(darts_, none)) {}
+
+    Map(unsigned n_, unsigned darts_, const Entries& rows) : Map(n_, darts_)
+    {
+        for (unsigned i = 0; i <= n; i++)
+            for (unsigned d = 0; d < darts; d++)
+                a[i][d] = rows[std::size_t(i) * darts + d];
+    }
+
+    bool present(unsigned d) const { return a[0][d] != none; }
+
+    void write(Entries& rows) const
+    {
+        for (unsigned i = 0; i <= n; i++)
+            for (unsigned d = 0; d < darts; d++)
+                rows[std::size_t(i) * darts + d] = std::uint16_t(a[i][d]);
+    }
+};
+
+// Sets of darts that belong together.
+class Groups {
+public:
+    explicit Groups(unsigned darts) : parent(darts) { std::iota(parent.begin(), parent.end(), 0u); }
+
+    unsigned find(unsigned d)
+    {
+        while (parent[d] != d)
+            d = parent[d] = parent[parent[d]];
+        return d;
+    }
+
+    void join(unsigned d, unsigned e) { parent[find(d)] = find(e); }
+
+private:
+    std::vector<unsigned> parent;
+};
+
+// The i-cells: all that a dart reaches by every involution but a_i.
+inline Groups cells(const Map& m, unsigned i)
+{
+    Groups g(m.darts);
+    for (unsigned j = 0; j <= m.n; j++)
+        for (unsigned d = 0; j != i && d < m.darts; d++)
+            if (m.present(d))
+                g.join(d, m.a[j][d]);
+    return g;
+}
+
+// The removal test of one dart in a cell of dimension delta.
+inline bool passes(const Map& m, unsigned delta, unsigned d)
+{
+    if (delta + 2 > m.n)
+        return true;
+    const auto &next = m.a[delta + 1], &second = m.a[delta + 2];
+    return second[next[d]] == next[second[d]];
+}
+
+inline void demand_neighbours_in_base(const Map& m)
+{
+    for (unsigned i = 0; i <= m.n; i++)
+        for (unsigned d = 0; d < m.darts; d++)
+            demand(m.a[i][d] < m.darts, 5, 0, i, d);
+}
+
+inline void demand_neighbours_in_level(const Map& m)
+{
+    for (unsigned i = 0; i <= m.n; i++)
+        for (unsigned d = 0; d < m.darts; d++) {
+            const unsigned e = m.a[i][d];
+            const bool good = m.present(d) ? e < m.darts && m.present(e) : e == none;
+            demand(good, 5, 0, i, d);
+        }
+}
+
+inline void demand_involutions(const Map& m)
+{
+    for (unsigned i = 0; i <= m.n; i++)
+        for (unsigned d = 0; d < m.darts; d++)
+            if (m.present(d))
+                demand(m.a[i][m.a[i][d]] == d, 6, 0, i, d);
+}
+
+inline void demand_commuting(const Map& m)
+{
+    for (unsigned i = 0; i <= m.n; i++)
+        for (unsigned j = i + 2; j <= m.n; j++)
+            for (unsigned d = 0; d < m.darts; d++)
+                if (m.present(d))
+                    demand(m.a[j][m.a[i][d]] == m.a[i][m.a[j][d]], 7, 0, i, d);
+}
+
+// ---------------------------------------------------------------- kernels and removal
+
+// For each dart the dimension of its removal, or `stay`.
+using Kernel = std::vector<unsigned>;
+
+inline void demand_whole_cells(const Map& m, const Kernel& kernel, unsigned level)
+{
+    for (unsigned d = 0; d < m.darts; d++)
+        for (unsigned j = 0; kernel[d] != stay && j <= m.n; j++)
+            if (j != kernel[d])
+                demand(kernel[m.a[j][d]] == kernel[d], 9, level, j, d);
+}
+
+inline void demand_removable(const Map& m, const Kernel& kernel, unsigned level)
+{
+    for (unsigned d = 0; d < m.darts; d++)
+        if (kernel[d] != stay)
+            demand(passes(m, kernel[d], d), 10, level, kernel[d] + 1, d);
+}
+
+// The new a_i. Going by a_i from a survivor and on by a_(i+1) and a_i in turn over darts marked i never branches. So
+// the darts so connected form chains, and the survivors at the ends of a chain are neighbours; a survivor that is
+// alone in its chain is free.
+inline void reduce_row(const Map& m, const Kernel& kernel, unsigned i, Map& next)
+{
+    Groups chains(m.darts);
+    for (unsigned d = 0; d < m.darts; d++) {
+        if (!m.present(d) || (kernel[d] != stay && kernel[d] != i))
+            continue;
+        chains.join(d, m.a[i][d]);
+        if (kernel[d] == i)
+            chains.join(d, m.a[i + 1][d]);
+    }
+    std::vector<unsigned> first(m.darts, none), last(m.darts, none); // survivors of a chain
+    for (unsigned d = 0; d < m.darts; d++) {
+        if (!m.present(d) || kernel[d] != stay)
+            continue;
+        const unsigned chain = chains.find(d);
+        assert(last[chain] == none || first[chain] == last[chain]);
+        if (first[chain] == none)
+            first[chain] = d;
+        last[chain] = d;
+    }
+    for (unsigned d = 0; d < m.darts; d++)
+        if (m.present(d) && kernel[d] == stay) {
+            const unsigned chain = chains.find(d);
+            next.a[i][d] = first[chain] == d ? last[chain] : first[chain];
+        }
+}
+
+inline Map reduce(const Map& m, const Kernel& kernel)
+{
+    Map next(m.n, m.darts);
+    for (unsigned i = 0; i <= m.n; i++)
+        reduce_row(m, kernel, i, next);
+    return next;
+}
+
+// ---------------------------------------------------------------- the folded form
+
+inline bool marks_fit(unsigned n, unsigned h, unsigned lambda, unsigned delta)
+{
+    return lambda < h ? delta < n : lambda == h && delta == n;
+}
+
+inline void demand_folded(unsigned n, unsigned darts, unsigned h, const Bytes& lambda, const Bytes& delta,
+                          unsigned level)
+{
+    for (unsigned d = 0; d < darts; d++)
+        demand(marks_fit(n, h, lambda[d], delta[d]), 8, level, 0, d);
+}
+
+inline Kernel kernel_of(const Bytes& lambda, const Bytes& delta, unsigned level)
+{
+    Kernel kernel(lambda.size(), stay);
+    for (std::size_t d = 0; d < lambda.size(); d++)
+        if (lambda[d] == level)
+            kernel[d] = delta[d];
+    return kernel;
+}
+
+// Takes one kernel; the table holds its level if it is refused.
+inline Map climb(const Map& m, const Kernel& kernel, unsigned level, Entries& table)
+{
+    m.write(table);
+    demand_whole_cells(m, kernel, level);
+    demand_removable(m, kernel, level);
+    return reduce(m, kernel);
+}
+
+// ---------------------------------------------------------------- check and add
+
+inline void demand_base(const Map& base)
+{
+    demand_neighbours_in_base(base);
+    demand_involutions(base);
+    demand_commuting(base);
+}
+
+inline void check_base(unsigned n, unsigned darts, const Entries& rows)
+{
+    demand_dimension(n);
+    demand_darts(darts);
+    demand_length(rows.size(), std::size_t(n + 1) * darts);
+    demand_base(Map(n, darts, rows));
+}
+
+inline void demand_pyramid_lengths(unsigned n, unsigned darts, unsigned h, const Entries& rows, const Bytes& lambda,
+                                   const Bytes& delta)
+{
+    demand_dimension(n);
+    demand_darts(darts);
+    demand_height(h);
+    demand_length(rows.size(), std::size_t(n + 1) * darts);
+    demand_length(lambda.size(), darts);
+    demand_length(delta.size(), darts);
+}
+
+inline Map climb_to_top(Map level, unsigned h, const Bytes& lambda, const Bytes& delta, Entries& table)
+{
+    for (unsigned k = 0; k < h; k++)
+        level = climb(level, kernel_of(lambda, delta, k), k, table);
+    return level;
+}
+
+inline void check(unsigned n, unsigned darts, unsigned h, const Entries& rows, const Bytes& lambda, const Bytes& delta,
+                  Entries& table)
+{
+    demand_pyramid_lengths(n, darts, h, rows, lambda, delta);
+    demand_length(table.size(), rows.size());
+    const Map base(n, darts, rows);
+    demand_base(base);
+    demand_folded(n, darts, h, lambda, delta, 0);
+    climb_to_top(base, h, lambda, delta, table).write(table);
+}
+
+inline void demand_mark_row(unsigned n, unsigned darts, unsigned h, const Bytes& lambda, const Bytes& marks)
+{
+    for (unsigned d = 0; d < darts; d++)
+        demand(marks[d] == stay || (marks[d] < n && lambda[d] == h), 8, h, 0, d);
+}
+
+// Returns the new height.
+inline unsigned add(unsigned n, unsigned darts, unsigned h, const Entries& rows, Bytes& lambda, Bytes& delta,
+                    const Bytes& marks, Entries& table)
+{
+    demand_pyramid_lengths(n, darts, h, rows, lambda, delta);
+    demand_length(marks.size(), darts);
+    demand_length(table.size(), rows.size());
+    demand(h != 32, 20);
+    const Map base(n, darts, rows);
+    demand_base(base);
+    demand_folded(n, darts, h, lambda, delta, 0);
+    demand_mark_row(n, darts, h, lambda, marks);
+    const Map top = climb_to_top(base, h, lambda, delta, table);
+    climb(top, Kernel(marks.begin(), marks.end()), h, table).write(table);
+    for (unsigned d = 0; d < darts; d++)
+        if (marks[d] != stay)
+            delta[d] = marks[d];
+        else if (lambda[d] == h)
+            lambda[d] = std::uint8_t(h + 1);
+    return h + 1;
+}
+
+inline void marks(unsigned n, unsigned darts, unsigned h, const Bytes& lambda, const Bytes& delta, unsigned level,
+                  Bytes& out)
+{
+    demand_dimension(n);
+    demand_darts(darts);
+    demand_height(h);
+    demand_length(lambda.size(), darts);
+    demand_length(delta.size(), darts);
+    demand_length(out.size(), darts);
+    demand(level <= h, 11, level);
+    demand_folded(n, darts, h, lambda, delta, level);
+    for (unsigned d = 0; d < darts; d++)
+        out[d] = level < h && lambda[d] == level ? delta[d] : std::uint8_t(stay);
+}
+
+// ---------------------------------------------------------------- readings
+
+struct Reading {
+    unsigned neighbour = 0, count = 0;
+};
+
+// One question to a folded pyramid: who is the neighbour of `dart` by `involution` on `level`?
+class Question {
+public:
+    Question(unsigned n_, unsigned darts_, unsigned h_, const Entries& rows_, const Bytes& lambda_,
+             const Bytes& delta_, unsigned level_, unsigned involution_, unsigned dart_)
+        : n(n_), darts(darts_), h(h_), rows(rows_), lambda(lambda_), delta(delta_), level(level_),
+          involution(involution_), dart(dart_)
+    {
+    }
+
+    void demand_all_before_the_walk() const
+    {
+        demand_pyramid_lengths(n, darts, h, rows, lambda, delta);
+        demand(level <= h, 11, level, involution, dart);
+        demand(involution <= n, 13, level, involution, dart);
+        demand(dart < darts, 12, level, involution, dart);
+        demand(marks_fit(n, h, lambda[dart], delta[dart]), 8, level, involution, dart);
+        demand(lambda[dart] >= level, 12, level, involution, dart);
+    }
+
+    Reading direct()
+    {
+        unsigned t = involution;
+        unsigned met = read(t, dart);
+        while (lambda[met] < level) {
+            if (delta[met] == t)
+                t = t + 1;
+            else if (delta[met] + 1u == t)
+                t = t - 1;
+            else
+                refuse_passing(met);
+            met = read(t, met);
+        }
+        return {met, count};
+    }
+
+    Reading by_levels()
+    {
+        const unsigned met = on_level(level, involution, dart);
+        return {met, count};
+    }
+
+private:
+    // One base entry.
+    unsigned read(unsigned row, unsigned from)
+    {
+        demand(count < 1 + 2 * darts, 15, level, involution, dart);
+        count++;
+        last_row = row;
+        const unsigned met = rows[std::size_t(row) * darts + from];
+        demand(met < darts, 5, level, row, from);
+        demand(marks_fit(n, h, lambda[met], delta[met]), 8, level, row, met);
+        return met;
+    }
+
+    [[noreturn]] void refuse_passing(unsigned met) const { throw Refusal{14, level, last_row, met}; }
+
+    unsigned on_level(unsigned l, unsigned i, unsigned from)
+    {
+        if (l == 0)
+            return read(i, from);
+        unsigned met = on_level(l - 1, i, from);
+        while (lambda[met] < l) {
+            demand_in_kernel(l - 1, i, met);
+            met = on_level(l - 1, i + 1, met);
+            demand_in_kernel(l - 1, i, met);
+            met = on_level(l - 1, i, met);
+        }
+        return met;
+    }
+
+    void demand_in_kernel(unsigned kernel, unsigned dimension, unsigned met) const
+    {
+        if (lambda[met] != kernel || delta[met] != dimension)
+            refuse_passing(met);
+    }
+
+    const unsigned n, darts, h;
+    const Entries& rows;
+    const Bytes &lambda, &delta;
+    const unsigned level, involution, dart;
+    unsigned count = 0, last_row = 0;
+};
+
+inline Reading read(unsigned n, unsigned darts, unsigned h, const Entries& rows, const Bytes& lambda,
+                    const Bytes& delta, unsigned level, unsigned involution, unsigned dart)
+{
+    Question question(n, darts, h, rows, lambda, delta, level, involution, dart);
+    question.demand_all_before_the_walk();
+    return question.direct();
+}
+
+inline Reading read_by_levels(unsigned n, unsigned darts, unsigned h, const Entries& rows, const Bytes& lambda,
+                              const Bytes& delta, unsigned level, unsigned involution, unsigned dart)
+{
+    Question question(n, darts, h, rows, lambda, delta, level, involution, dart);
+    question.demand_all_before_the_walk();
+    return question.by_levels();
+}
+
+// ---------------------------------------------------------------- whole levels
+
+// Returns the total count.
+inline unsigned unfold(unsigned n, unsigned darts, unsigned h, const Entries& rows, const Bytes& lambda,
+                       const Bytes& delta, unsigned level, Entries& table)
+{
+    demand_pyramid_lengths(n, darts, h, rows, lambda, delta);
+    demand_length(table.size(), rows.size());
+    demand(level <= h, 11, level);
+    demand_folded(n, darts, h, lambda, delta, level);
+    table.assign(table.size(), none);
+    unsigned total = 0;
+    Map unfolded(n, darts);
+    for (unsigned i = 0; i <= n; i++)
+        for (unsigned d = 0; d < darts; d++)
+            if (lambda[d] >= level) {
+                const Reading r = Question(n, darts, h, rows, lambda, delta, level, i, d).direct();
+                unfolded.a[i][d] = r.neighbour;
+                total += r.count;
+            }
+    unfolded.write(table);
+    return total;
+}
+
+struct Part {
+    unsigned unfolded = 0, start = 0, length = 0;
+};
+
+inline Part row(unsigned n, unsigned darts, unsigned h, const Entries& base, const Entries& unfolded, unsigned level,
+                unsigned involution)
+{
+    demand_dimension(n);
+    demand_darts(darts);
+    demand_height(h);
+    demand_length(base.size(), std::size_t(n + 1) * darts);
+    demand_length(unfolded.size(), std::size_t(n + 1) * darts);
+    demand(level <= h, 11, level, involution);
+    demand(involution <= n, 13, level, involution);
+    return {level == 0 ? 0u : 1u, involution * darts, darts};
+}
+
+// Returns the number of survivors.
+inline unsigned survivors(unsigned darts, unsigned h, const Bytes& lambda, unsigned level, Words& words)
+{
+    demand_darts(darts);
+    demand_height(h);
+    demand_length(lambda.size(), darts);
+    demand_length(words.size(), 64);
+    demand(level <= h, 11, level);
+    for (unsigned d = 0; d < darts; d++)
+        demand(lambda[d] <= h, 8, level, 0, d);
+    words.assign(64, 0);
+    unsigned count = 0;
+    for (unsigned d = 0; d < darts; d++)
+        if (lambda[d] >= level) {
+            words[d / 64] += std::uint64_t(1) << d % 64;
+            count++;
+        }
+    return count;
+}
+
+inline void mark(unsigned n, unsigned darts, const Entries& table, unsigned dimension, Bytes& out)
+{
+    demand_dimension(n);
+    demand_darts(darts);
+    demand_length(table.size(), std::size_t(n + 1) * darts);
+    demand_length(out.size(), darts);
+    demand(dimension < n, 13, 0, dimension);
+    const Map m(n, darts, table);
+    demand_neighbours_in_level(m);
+    demand_involutions(m);
+    demand_commuting(m);
+    Groups cell = cells(m, dimension);
+    std::vector<bool> stays(darts, false);
+    for (unsigned d = 0; d < darts; d++)
+        if (!m.present(d) || !passes(m, dimension, d))
+            stays[cell.find(d)] = true;
+    for (unsigned d = 0; d < darts; d++)
+        out[d] = std::uint8_t(stays[cell.find(d)] ? stay : dimension);
+}
+
+// ---------------------------------------------------------------- records
+
+// The fields of a record, one after the other.
+class Fields {
+public:
+    explicit Fields(const Bytes& bytes_) : bytes(bytes_) {}
+
+    unsigned offset() const { return unsigned(at); }
+    bool at_end() const { return at == bytes.size(); }
+    unsigned tag() const
+    {
+        demand(at < bytes.size(), 16, 0, 0, offset());
+        return bytes[at];
+    }
+
+    // Steps over a field and returns its body.
+    Bytes next(unsigned due_tag, std::size_t due_length)
+    {
+        demand(tag() == due_tag, 17, 0, 0, offset());
+        demand(bytes.size() - at >= 3, 16, 0, 0, offset());
+        demand(bytes[at + 1] + 256u * bytes[at + 2] == due_length, 18, 0, 0, offset());
+        demand(bytes.size() - at - 3 >= due_length, 16, 0, 0, offset());
+        const auto body = bytes.begin() + std::ptrdiff_t(at) + 3;
+        at += 3 + due_length;
+        return Bytes(body, body + std::ptrdiff_t(due_length));
+    }
+
+private:
+    const Bytes& bytes;
+    std::size_t at = 0;
+};
+
+struct Record {
+    unsigned n = 0, h = 0, darts = 0;
+    Entries rows;
+    Bytes lambda, delta;
+};
+
+inline Record parse(const Bytes& bytes)
+{
+    Fields fields(bytes);
+    Record r;
+    const Bytes header = fields.next(0x01, 4);
+    r.n = header[0];
+    r.h = header[1];
+    r.darts = header[2] + 256u * header[3];
+    demand_dimension(r.n);
+    demand_darts(r.darts);
+    demand_height(r.h);
+    const bool short_rows = fields.tag() == 0x20 && r.darts <= 256;
+    for (unsigned i = 0; i <= r.n; i++) {
+        const Bytes row = short_rows ? fields.next(0x20 + i, r.darts) : fields.next(0x10 + i, 2 * r.darts);
+        for (unsigned d = 0; d < r.darts; d++)
+            r.rows.push_back(std::uint16_t(short_rows ? row[d] : row[2 * d] + 256u * row[2 * d + 1]));
+    }
+    r.lambda = fields.next(0x30, r.darts);
+    r.delta = fields.next(0x31, r.darts);
+    demand(fields.at_end(), 19, 0, 0, fields.offset());
+    return r;
+}
+
+inline Record take(const Bytes& bytes, Entries& rows, Bytes& lambda, Bytes& delta)
+{
+    const Record r = parse(bytes);
+    demand(rows.size() >= r.rows.size() && lambda.size() >= r.darts && delta.size() >= r.darts, 4);
+    std::copy(r.rows.begin(), r.rows.end(), rows.begin());
+    std::copy(r.lambda.begin(), r.lambda.end(), lambda.begin());
+    std::copy(r.delta.begin(), r.delta.end(), delta.begin());
+    return r;
+}
+
+// What the program levels prints, its lines joined by " / ".
+inline std::string levels(const Bytes& bytes)
+{
+    try {
+        const Record r = parse(bytes);
+        Entries table(r.rows.size());
+        check(r.n, r.darts, r.h, r.rows, r.lambda, r.delta, table);
+        std::string text = std::to_string(r.n) + ' ' + std::to_string(r.darts) + ' ' + std::to_string(r.h);
+        for (unsigned l = 0; l <= r.h; l++) {
+            const unsigned total = unfold(r.n, r.darts, r.h, r.rows, r.lambda, r.delta, l, table);
+            Words words(64);
+            const unsigned count = survivors(r.darts, r.h, r.lambda, l, words);
+            text += " / " + std::to_string(l) + ' ' + std::to_string(count) + ' ' + std::to_string(total);
+        }
+        return text;
+    } catch (const Refusal& r) {
+        return "refused " + std::to_string(r.number) + ' ' + std::to_string(r.level) + ' ' +
+               std::to_string(r.involution) + ' ' + std::to_string(r.dart);
+    }
+}
+
+} // namespace independent
+
+#endif
