@@ -13,6 +13,7 @@ COUNT=${COUNT:-1000000} SEED=${SEED:-1} PYRAMIDS=${PYRAMIDS:-5000} BUILD=${BUILD
 need "$CC" "${packages[0]}"
 need "$CXX" "${packages[1]}"
 need "$OBJCOPY" "${packages[2]}"
+need python3 python3
 [ ${#run[@]} -eq 0 ] || need "${run[0]}" qemu-user
 [ -f /usr/include/CGAL/Generalized_map.h ] || missing+=(libcgal-dev)
 stop_if_missing
@@ -33,8 +34,9 @@ build || exit 2
 failed=0
 
 # vectors NAME TITLE COMMAND..: the command's output must be the answers; COMMAND gets the cases on standard input.
+folder=tests/vectors
 vectors() {
-    local name=$1 title=$2 cases=tests/vectors/$1.cases answers=tests/vectors/$1.answers out=$BUILD/$1.out
+    local name=$1 title=$2 cases=$folder/$1.cases answers=$folder/$1.answers out=$BUILD/$1.out
     shift 2
     if "$@" <"$cases" >"$out" && cmp -s "$out" "$answers"; then
         echo "vectors $name, $title: $(wc -l <"$cases") cases, 0 differences"
@@ -60,6 +62,10 @@ for name in small one two; do
     vectors "$name" "library" "${run[@]}" "$BUILD/answer"
     vectors "$name" "independent implementation" "${run[@]}" "$BUILD/compare" --vectors "tests/vectors/$name.cases"
 done
+for part in cases answers; do
+    python3 tests/prefixes.py "$part" >"$BUILD/prefixes.$part" || exit 2
+done
+folder=$BUILD vectors prefixes "library" "${run[@]}" "$BUILD/answer"
 report "random, large and damaged" "$BUILD/random.txt" "${run[@]}" "$BUILD/compare" --random "$SEED" "$COUNT"
 report "CGAL" "$BUILD/cgal.txt" "${run[@]}" "$BUILD/cgal" "$SEED" "$PYRAMIDS"
 echo
