@@ -1,0 +1,140 @@
+-- The document's number and values tell the answer: for each kind of answer the way back from its values. Assumes nothing.
+use mathlib.Core.Path.{_≡_, refl}
+use mathlib.Core.Bool.{cond}
+use Prim.Native.Nat.{ℕ}
+use lib.Dec.{eqb}
+use Rattle.maps.specs.Verdict.{Verdict, accepted, refused}
+use Rattle.maps.specs.Read.{Reading as Value, found, none, unless}
+use Rattle.answers.specs.Numbers.{refusalOf, verdictOf, said}
+use Rattle.answers.specs.declared.Level.{Level}
+use Rattle.answers.specs.declared.Dim.{Dim}
+use Rattle.answers.specs.declared.Refusal.{Refusal}
+use Rattle.answers.specs.declared.Refusal.the-variants.{Dimension, Darts, Height, Length, Strays, NotTwice, NotCommuting, Marks, NotWhole, NotRemovable, NoLevel, NoDart, NoInvolution, NoPass, TooLong, EndsEarly, OtherTag, WrongLength, BytesAfter, Full}
+use Rattle.answers.specs.declared.Numbers.{Numbers}
+use Rattle.answers.specs.declared.Check.{Check}
+use Rattle.answers.specs.declared.Check.the-variants.{Accepted, Refused}
+use Rattle.reading.specs.Readings.{valueOf}
+use Rattle.reading.specs.Totals.{checkOf, totalOf}
+use Rattle.reading.specs.declared.Reading.{Reading}
+use Rattle.reading.specs.declared.Reading.the-variants.{Found, Refused as Unread}
+use Rattle.reading.specs.declared.Total.{Total}
+use Rattle.reading.specs.declared.Total.the-variants.{Counted, Refused as Uncounted}
+use Rattle.rows.specs.Answers.{verdictOfSurvivors, countOfSurvivors}
+use Rattle.rows.specs.declared.counted.Survivors.{Survivors}
+use Rattle.rows.specs.declared.counted.Survivors.the-variants.{Counted as Ones, Refused as NoWords}
+use Rattle.checking.specs.Added.{addedOf, heightOf}
+use Rattle.checking.specs.declared.pyramid.Added.{Added}
+use Rattle.checking.specs.declared.pyramid.Added.the-variants.{Grown, Refused as NotAdded}
+use Rattle.records.specs.Answers.{Outcome, saying, takenOf}
+use Rattle.records.specs.declared.Taken.{Taken}
+use Rattle.records.specs.declared.Taken.the-variants.{Record, Refused as NotTaken}
+
+abbrev level : ℕ → Level
+level l = record { 0 = l }
+
+abbrev dimension : ℕ → Dim
+dimension i = record { 0 = i }
+
+-- the refusal with a number, level, involution and dart
+abbrev pub refusalFrom : ℕ → ℕ → ℕ → ℕ → Refusal
+refusalFrom k l i d =
+    cond (eqb k 1) Dimension (cond (eqb k 2) Darts (cond (eqb k 3) Height (cond (eqb k 4) Length
+    (cond (eqb k 5) (Strays (level l) (dimension i) d) (cond (eqb k 6) (NotTwice (dimension i) d) (cond (eqb k 7) (NotCommuting (dimension i) d)
+    (cond (eqb k 8) (Marks (level l) (dimension i) d) (cond (eqb k 9) (NotWhole (level l) (dimension i) d) (cond (eqb k 10) (NotRemovable (level l) (dimension i) d)
+    (cond (eqb k 11) (NoLevel (level l) (dimension i) d) (cond (eqb k 12) (NoDart (level l) (dimension i) d) (cond (eqb k 13) (NoInvolution (level l) (dimension i) d)
+    (cond (eqb k 14) (NoPass (level l) (dimension i) d) (cond (eqb k 15) (TooLong (level l) (dimension i) d)
+    (cond (eqb k 16) (EndsEarly d) (cond (eqb k 17) (OtherTag d) (cond (eqb k 18) (WrongLength d) (cond (eqb k 19) (BytesAfter d) Full))))))))))))))))))
+
+-- a refusal's values tell it, whatever holds it
+pub refusal-told : {A : Type 0} (from : Verdict → A) (holding : Refusal → A) → ((k l i d : ℕ) → from (refused k l i d) ≡ holding (refusalFrom k l i d)) → (r : Refusal) → from (refusalOf r) ≡ holding r
+refusal-told from holding is Dimension = is 1 0 0 0
+refusal-told from holding is Darts = is 2 0 0 0
+refusal-told from holding is Height = is 3 0 0 0
+refusal-told from holding is Length = is 4 0 0 0
+refusal-told from holding is (Strays l i d) = is 5 (l .0) (i .0) d
+refusal-told from holding is (NotTwice i d) = is 6 0 (i .0) d
+refusal-told from holding is (NotCommuting i d) = is 7 0 (i .0) d
+refusal-told from holding is (Marks l i d) = is 8 (l .0) (i .0) d
+refusal-told from holding is (NotWhole l i d) = is 9 (l .0) (i .0) d
+refusal-told from holding is (NotRemovable l i d) = is 10 (l .0) (i .0) d
+refusal-told from holding is (NoLevel l i d) = is 11 (l .0) (i .0) d
+refusal-told from holding is (NoDart l i d) = is 12 (l .0) (i .0) d
+refusal-told from holding is (NoInvolution l i d) = is 13 (l .0) (i .0) d
+refusal-told from holding is (NoPass l i d) = is 14 (l .0) (i .0) d
+refusal-told from holding is (TooLong l i d) = is 15 (l .0) (i .0) d
+refusal-told from holding is (EndsEarly offset) = is 16 0 0 offset
+refusal-told from holding is (OtherTag offset) = is 17 0 0 offset
+refusal-told from holding is (WrongLength offset) = is 18 0 0 offset
+refusal-told from holding is (BytesAfter offset) = is 19 0 0 offset
+refusal-told from holding is Full = is 20 0 0 0
+
+-- one value where accepted, else one that holds the refusal
+abbrev pub fromVerdict : {A : Type 0} → A → (Refusal → A) → Verdict → A
+fromVerdict value holding accepted = value
+fromVerdict value holding (refused k l i d) = holding (refusalFrom k l i d)
+
+-- the answer of a check
+abbrev pub checkFrom : Verdict → Check
+checkFrom = fromVerdict Accepted Refused
+
+pub check-told : (c : Check) → checkFrom (verdictOf c) ≡ c
+check-told Accepted = refl
+check-told (Refused r) = refusal-told checkFrom Refused (λ k l i d. refl) r
+
+-- the answer of a reading
+abbrev pub readingFrom : Value → Reading
+readingFrom (found neighbour count) = Found neighbour count
+readingFrom (none k l i d) = Unread (refusalFrom k l i d)
+
+pub reading-told : (r : Reading) → readingFrom (valueOf r) ≡ r
+reading-told (Found neighbour count) = refl
+reading-told (Unread r) = refusal-told (λ v. readingFrom (unless v (none 0 0 0 0))) Unread (λ k l i d. refl) r
+
+-- the answer of an unfolding: verdict and total
+abbrev pub valuesOfTotal : Total → Verdict × ℕ
+valuesOfTotal t = (checkOf t, totalOf t)
+
+abbrev pub totalFrom : Verdict × ℕ → Total
+totalFrom x = fromVerdict (Counted (x .1)) Uncounted (x .0)
+
+pub total-told : (t : Total) → totalFrom (valuesOfTotal t) ≡ t
+total-told (Counted total) = refl
+total-told (Uncounted r) = refusal-told (fromVerdict (Counted 0) Uncounted) Uncounted (λ k l i d. refl) r
+
+-- the answer of the survivor words: verdict and count
+abbrev pub valuesOfSurvivors : Survivors → Verdict × ℕ
+valuesOfSurvivors s = (verdictOfSurvivors s, countOfSurvivors s)
+
+abbrev pub survivorsFrom : Verdict × ℕ → Survivors
+survivorsFrom x = fromVerdict (Ones (x .1)) NoWords (x .0)
+
+pub survivors-told : (s : Survivors) → survivorsFrom (valuesOfSurvivors s) ≡ s
+survivors-told (Ones count) = refl
+survivors-told (NoWords r) = refusal-told (fromVerdict (Ones 0) NoWords) NoWords (λ k l i d. refl) r
+
+-- the answer of an add to a pyramid of height h: verdict and height
+abbrev pub valuesOfAdded : ℕ → Added → Verdict × ℕ
+valuesOfAdded h a = (addedOf a, heightOf h a)
+
+abbrev pub addedFrom : Verdict × ℕ → Added
+addedFrom x = fromVerdict (Grown (level (x .1))) NotAdded (x .0)
+
+pub added-told : (h : ℕ) (a : Added) → addedFrom (valuesOfAdded h a) ≡ a
+added-told h (Grown new) = refl
+added-told h (NotAdded r) = refusal-told (fromVerdict (Grown (level h)) NotAdded) NotAdded (λ k l i d. refl) r
+
+-- the answer of taking a record
+abbrev pub takenFrom : Outcome → Taken
+takenFrom x = fromVerdict (Record (dimension (x .dimension)) (level (x .height)) (x .darts)) NotTaken (x .verdict)
+
+pub taken-told : (t : Taken) → takenFrom (takenOf t) ≡ t
+taken-told (Record n h darts) = refl
+taken-told (NotTaken r) = refusal-told (λ v. takenFrom (saying v 0 0 0)) NotTaken (λ k l i d. refl) r
+
+-- the four numbers of a refusal
+abbrev pub numbersFrom : Verdict → Numbers
+numbersFrom accepted = record { number = 0; level = 0; involution = 0; dart = 0 }
+numbersFrom (refused k l i d) = record { number = k; level = l; involution = i; dart = d }
+
+pub numbers-told : (r : Numbers) → numbersFrom (said r) ≡ r
+numbers-told r = refl

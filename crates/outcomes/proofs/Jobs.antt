@@ -1,0 +1,92 @@
+-- Each job leaves one outcome for each input. Assumes nothing.
+use mathlib.Core.Path.{refl, ap, ap₂, sym, _∙_}
+use contract.Lifetimes.{Lfts}
+use denote.Ref.{now}
+use Rattle.answers.specs.Numbers.{verdictOf, said}
+use Rattle.reading.specs.Readings.{valueOf}
+use Rattle.records.specs.Answers.{takenOf}
+use Rattle.answers.proofs.sizes.Reads as sizes
+use Rattle.answers.proofs.marks_refused.Reads as marks-refused
+use Rattle.answers.proofs.numbers_of.Reads as numbers-of
+use Rattle.checking.proofs.check_base.Reads as check-base
+use Rattle.checking.proofs.check_explicit.Reads as check-explicit
+use Rattle.checking.proofs.check.Reads as check
+use Rattle.checking.proofs.add.Reads as add
+use Rattle.rows.proofs.marks_of.Reads as marks-of
+use Rattle.rows.proofs.row.Reads as row
+use Rattle.rows.proofs.row_refusal.Reads as row-refusal
+use Rattle.rows.proofs.survivors.Reads as survivors
+use Rattle.reading.proofs.question.Reads as question
+use Rattle.reading.proofs.read.Reads as read
+use Rattle.reading.proofs.unfold.Reads as unfold-level
+use Rattle.levelwise.proofs.read_by_levels.Reads as by-levels
+use Rattle.cells.proofs.mark_cells.Reads as mark-cells
+use Rattle.records.proofs.take.Reads as take
+use Rattle.outcomes.proofs.One.{OneOutcome, one-outcome, nothing, three, same-three}
+use Rattle.outcomes.proofs.Answers.{checkFrom, check-told, readingFrom, reading-told, valuesOfTotal, totalFrom, total-told, valuesOfSurvivors, survivorsFrom, survivors-told, valuesOfAdded, addedFrom, added-told, takenFrom, taken-told, numbersFrom, numbers-told}
+use Rattle.outcomes.proofs.Cells.{marking-same}
+
+pub check-base-one : (κs : Lfts 1) → OneOutcome (check-base.Learnt κs) (λ r. r) nothing
+check-base-one κs = one-outcome _ _ _ (λ a. verdictOf) checkFrom (λ a. check-told) _ _ (λ a r s c. (c, refl))
+
+pub check-explicit-one : (κs : Lfts 1) → OneOutcome (check-explicit.Learnt κs) (λ r. r) nothing
+check-explicit-one κs = one-outcome _ _ _ (λ a. verdictOf) checkFrom (λ a. check-told) _ _ (λ a r s c. (c, refl))
+
+-- the table
+pub check-one : (κs : Lfts 4) → OneOutcome (check.Learnt κs) (λ r. r) (λ s. now (s .1 .1 .1 .1 .1 .1 .0))
+check-one κs = one-outcome _ _ _ (λ a. verdictOf) checkFrom (λ a. check-told) _ _ (λ a r s c. c)
+
+-- Λ, Δ and the table
+pub add-one : (κs : Lfts 5) → OneOutcome (add.Learnt κs) (λ r. r) (λ s. three (now (s .1 .1 .1 .1 .0)) (now (s .1 .1 .1 .1 .1 .0)) (now (s .1 .1 .1 .1 .1 .1 .1 .0)))
+add-one κs =
+    one-outcome _ _ _ (λ a. valuesOfAdded (a .1 .1 .0 .0)) addedFrom (λ a. added-told (a .1 .1 .0 .0)) _ _ (λ a r s c.
+    (ap₂ (λ v h. (v, h)) (c .0) (c .1 .0), same-three (c .1 .1 .0) (c .1 .1 .1 .0) (c .1 .1 .1 .1)))
+
+-- the mark row
+pub marks-of-one : (κs : Lfts 3) → OneOutcome (marks-of.Learnt κs) (λ r. r) (λ s. now (s .1 .1 .1 .1 .1 .1 .0))
+marks-of-one κs = one-outcome _ _ _ (λ a. verdictOf) checkFrom (λ a. check-told) _ _ (λ a r s c. c)
+
+pub question-one : (κs : Lfts 3) → OneOutcome (question.Learnt κs) (λ r. r) nothing
+question-one κs = one-outcome _ _ _ (λ a. verdictOf) checkFrom (λ a. check-told) _ _ (λ a r s c. (c, refl))
+
+pub read-one : (κs : Lfts 3) → OneOutcome (read.Learnt κs) (λ r. r) nothing
+read-one κs = one-outcome _ _ _ (λ a. valueOf) readingFrom (λ a. reading-told) _ _ (λ a r s c. (c, refl))
+
+pub read-by-levels-one : (κs : Lfts 3) → OneOutcome (by-levels.Learnt κs) (λ r. r) nothing
+read-by-levels-one κs = one-outcome _ _ _ (λ a. valueOf) readingFrom (λ a. reading-told) _ _ (λ a r s c. (c, refl))
+
+-- the table
+pub unfold-one : (κs : Lfts 4) → OneOutcome (unfold-level.Learnt κs) (λ r. r) (λ s. now (s .1 .1 .1 .1 .1 .1 .1 .0))
+unfold-one κs = one-outcome _ _ _ (λ a. valuesOfTotal) totalFrom (λ a. total-told) _ _ (λ a r s c. (ap₂ (λ v t. (v, t)) (c .0) (c .1 .0), c .1 .1))
+
+-- A row is fixed in what it holds. Which of two slices an empty part is of is not said.
+pub row-one : (κs : Lfts 1) → OneOutcome (row.Learnt κs) now nothing
+row-one κs = one-outcome _ _ _ (λ a v. v) (λ v. v) (λ a v. refl) _ _ (λ a r s c. (c, refl))
+
+pub row-refusal-one : (κs : Lfts 2) → OneOutcome (row-refusal.Learnt κs) (λ r. r) nothing
+row-refusal-one κs = one-outcome _ _ _ (λ a. verdictOf) checkFrom (λ a. check-told) _ _ (λ a r s c. (c, refl))
+
+-- the words
+pub survivors-one : (κs : Lfts 2) → OneOutcome (survivors.Learnt κs) (λ r. r) (λ s. now (s .1 .1 .1 .1 .0))
+survivors-one κs = one-outcome _ _ _ (λ a. valuesOfSurvivors) survivorsFrom (λ a. survivors-told) _ _ (λ a r s c. (ap₂ (λ v t. (v, t)) (c .0) (c .1 .0), c .1 .1))
+
+-- the mark row, of which the contract says for each dart what its mark is
+pub mark-cells-one : (κs : Lfts 2) → OneOutcome (mark-cells.Learnt κs) (λ r. r) (λ s. now (s .1 .1 .1 .1 .0))
+mark-cells-one κs a r r′ s s′ c c′ =
+    (sym (check-told r) ∙ ap checkFrom (c .0 ∙ sym (c′ .0)) ∙ check-told r′, marking-same (a .0 .0) (a .1 .0) (now (a .1 .1 .0)) (a .1 .1 .1 .0 .0) (now (a .1 .1 .1 .1 .0)) _ _ (c .1) (c′ .1))
+
+-- rows, Λ and Δ
+pub take-one : (κs : Lfts 4) → OneOutcome (take.Learnt κs) (λ r. r) (λ s. three (now (s .1 .0)) (now (s .1 .1 .0)) (now (s .1 .1 .1 .0)))
+take-one κs =
+    one-outcome _ _ _ (λ a. takenOf) takenFrom (λ a. taken-told) _ _ (λ a r s c.
+    (c .0, same-three (c .1 .0) (c .1 .1 .0) (c .1 .1 .1)))
+
+-- what jobs share
+pub sizes-one : (κs : Lfts 0) → OneOutcome (sizes.Learnt κs) (λ r. r) nothing
+sizes-one κs = one-outcome _ _ _ (λ a. verdictOf) checkFrom (λ a. check-told) _ _ (λ a r s c. (c, refl))
+
+pub marks-refused-one : (κs : Lfts 0) → OneOutcome (marks-refused.Learnt κs) (λ r. r) nothing
+marks-refused-one κs = one-outcome _ _ _ (λ a r. r) (λ r. r) (λ a r. refl) _ _ (λ a r s c. (c, refl))
+
+pub numbers-of-one : (κs : Lfts 0) → OneOutcome (numbers-of.Learnt κs) (λ r. r) nothing
+numbers-of-one κs = one-outcome _ _ _ (λ a. said) numbersFrom (λ a. numbers-told) _ _ (λ a r s c. (c, refl))

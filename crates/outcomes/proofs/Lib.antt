@@ -1,0 +1,5 @@
+pub mod One
+pub mod Answers
+pub mod Cells
+pub mod Jobs
+pub mod Interface

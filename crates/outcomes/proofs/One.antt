@@ -1,0 +1,29 @@
+-- What it is for a contract to leave one outcome, and the law that shows it of every job. Assumes nothing.
+use mathlib.Core.Path.{_≡_, ap, sym, _∙_}
+use mathlib.Core.List.{List}
+use Prim.Native.Nat.{ℕ}
+
+-- contract a r s: the contract allows the result r and the memory s for the input a
+module _ {A R S T L : Type 0} (contract : A → R → S → Type 0) (returns : R → T) (leaves : S → L) where
+  -- Any two outcomes that the contract allows for one input are equal: result, refusal fields, counts, every entry lent.
+  abbrev pub OneOutcome : Type 0
+  OneOutcome = (a : A) (r r′ : R) (s s′ : S) → contract a r s → contract a r′ s′ → (returns r ≡ returns r′) × (leaves s ≡ leaves s′)
+
+  -- a contract leaves one outcome if it says, by the input, the values of the result, which tell the result, and the memory
+  pub one-outcome : {W : Type 0} (values : A → T → W) (back : W → T) → ((a : A) (v : T) → back (values a v) ≡ v) → (answer : A → W) (left : A → L)
+      → ((a : A) (r : R) (s : S) → contract a r s → (values a (returns r) ≡ answer a) × (leaves s ≡ left a)) → OneOutcome
+  one-outcome values back tells answer left says a r r′ s s′ c c′ =
+      let one = says a r s c in
+      let other = says a r′ s′ c′ in
+      (sym (tells a (returns r)) ∙ ap back (one .0 ∙ sym (other .0)) ∙ tells a (returns r′), one .1 ∙ sym (other .1))
+
+-- three slices that are written
+abbrev pub three : List ℕ → List ℕ → List ℕ → List ℕ × List ℕ × List ℕ
+three x y z = (x, y, z)
+
+pub same-three : {x x′ y y′ z z′ : List ℕ} → x ≡ x′ → y ≡ y′ → z ≡ z′ → three x y z ≡ three x′ y′ z′
+same-three p q t = λ i. three (p i) (q i) (t i)
+
+-- a job that writes nothing
+abbrev pub nothing : {S : Type 0} → S → Unit {0}
+nothing s = tt

@@ -1,0 +1,1 @@
+// Any two outcomes that a contract allows for one input are equal: proofs/. Assumes nothing.
