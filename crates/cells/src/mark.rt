@@ -128,7 +128,7 @@ pub fn mark_cells(n: Dim, darts: u16, table: &[u16], dimension: Dim, out: &mut [
     if n.0 <= dimension.0 {
         return Check::Refused(Refusal::NoInvolution(Level(0), dimension, 0));
     }
-    if let Check::Refused(r) = checking::check_explicit(n, darts, table) {
+    if let Check::Refused(r) = bases::check_explicit(n, darts, table) {
         return Check::Refused(r);
     }
     mark_accepted(n, darts, table, dimension, out);

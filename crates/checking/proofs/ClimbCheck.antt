@@ -7,10 +7,11 @@ use native.Mathlib.Omega.{arith}
 use lib.ListN.{length}
 use borrow.Author.Tests.{eqb-true}
 use Rattle.maps.specs.Verdict.{Verdict, accepted, _then_}
-use Rattle.maps.specs.Sizes.{sizes, number4, hasLength}
+use Rattle.maps.specs.Sizes.{number1, number2, number3, sizes, number4, hasLength}
 use Rattle.maps.specs.Table.{entry, each}
 use Rattle.maps.specs.Folded.{refusedMarks}
 use Rattle.maps.specs.Check.{checkMap, at8, check8, checkPyramid}
+use Rattle.maps.specs.CheckBase.{checkBase}
 use Rattle.maps.specs.CheckPyramid.{leftBehind, checkLent, tableAt, checkLeaves}
 use Rattle.facts.proofs.Verdicts.{then-accepted, when-accepted, scan-accepted, and-both}
 use Rattle.facts.proofs.Sizes.{sizes-sized, lengths-exact}
@@ -18,8 +19,7 @@ use Rattle.facts.proofs.Checks.{map-sound, valid-base}
 use Rattle.answers.specs.Numbers.{refusalOf}
 use Rattle.answers.specs.declared.Refusal.{Refusal}
 use Rattle.answers.proofs.Refusals.{refused-then}
-use Rattle.checking.specs.InTable.{Rows}
-use Rattle.checking.specs.Climb.{lentSizes, Base, climbs, climbLeaves, baseAndMarks}
+use Rattle.checking.specs.Climb.{lentSizes, baseSizes, Base, climbs, climbLeaves, baseAndMarks}
 use Rattle.checking.proofs.ClimbVerdicts.{Says, Early, says-then, lengths-early, map-early, marks-early, kernels-late, early-left, late-left, then-parts}
 
 -- what 1 to 4 tell when they are not refused
@@ -27,6 +27,7 @@ pub record Lent (n N h : ℕ) (rows lambda delta table : List ℕ) : Type 0 wher
   pub dimension : n ≤ 4
   pub darts : N ≤ 4096
   pub height : h ≤ 32
+  pub base : baseSizes n N rows ≡ accepted
   pub rows-long : length rows ≡ suc n * N
   pub lambda-long : length lambda ≡ N
   pub delta-long : length delta ≡ N
@@ -35,6 +36,13 @@ pub record Lent (n N h : ℕ) (rows lambda delta table : List ℕ) : Type 0 wher
 module _ (n N h : ℕ) (rows lambda delta table : List ℕ) where
   abbrev exact : Bool
   exact = hasLength rows (suc n * N) && (hasLength lambda N && (hasLength delta N && hasLength table (suc n * N)))
+
+  -- 1, 2 and 4 of a base pass where 1 to 4 of a pyramid do
+  lent-base : sizes n N h ≡ accepted → hasLength rows (suc n * N) ≡ true → baseSizes n N rows ≡ accepted
+  unfolding sizes number3 number4
+  lent-base e long =
+      let t = then-accepted (number1 n) (number2 N then number3 h) e in
+      rw (t .0, then-accepted (number2 N) (number3 h) (t .1) .0, long)
 
   pub lent-facts : lentSizes n N h rows lambda delta table ≡ accepted → Lent n N h rows lambda delta table
   lent-facts e =
@@ -47,6 +55,7 @@ module _ (n N h : ℕ) (rows lambda delta table : List ℕ) where
         dimension = z .dimension;
         darts = z .darts;
         height = z .height;
+        base = lent-base (s .0) (x .0);
         rows-long = eqb-true (length rows) (suc n * N) (x .0);
         lambda-long = eqb-true (length lambda) N (y .0);
         delta-long = eqb-true (length delta) N (w .0);
@@ -77,8 +86,10 @@ module _ (n N h : ℕ) (rows lambda delta table : List ℕ) where
   pub copied-based : {copied : List ℕ} → copied ≡ rows → Lent n N h rows lambda delta table → baseAndMarks n N h rows lambda delta ≡ accepted → Base n N h lambda delta copied
   copied-based same p e = rw same (based p e)
 
-  pub lent-rows : Lent n N h rows lambda delta table → Rows n N rows
-  lent-rows p = record { dimension = p .dimension; darts = p .darts; exact = p .rows-long }
+  -- once 1, 2 and 4 have passed, the check of the base is that of its map
+  pub base-map : baseSizes n N rows ≡ accepted → checkBase n N rows ≡ checkMap (entry N rows) n N (λ d. true)
+  unfolding checkBase
+  base-map e = sym (then-parts (sizes n N 0) (number4 (hasLength rows (suc n * N))) (checkMap (entry N rows) n N (λ d. true))) ∙ rw e
 
   check-parts : checkLent n N h rows lambda delta table ≡ (lentSizes n N h rows lambda delta table then (baseAndMarks n N h rows lambda delta then climbs n N h lambda delta rows))
   unfolding checkLent checkPyramid

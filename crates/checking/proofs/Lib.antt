@@ -2,7 +2,6 @@ mod KernelRows
 mod KernelSteps
 mod KernelChecks
 mod KernelRemoval
-mod Places
 mod ClimbMarks
 mod ClimbVerdicts
 mod ClimbSteps

@@ -18,6 +18,10 @@ use Rattle.checking.specs.Ready.{left}
 abbrev pub lentSizes : ℕ → ℕ → ℕ → List ℕ → List ℕ → List ℕ → List ℕ → Verdict
 lentSizes n N h rows lambda delta table = sizes n N h then number4 (hasLength rows (suc n * N) && (hasLength lambda N && (hasLength delta N && hasLength table (suc n * N))))
 
+-- 1, 2 and 4 of base rows
+abbrev pub baseSizes : ℕ → ℕ → List ℕ → Verdict
+baseSizes n N rows = sizes n N 0 then number4 (hasLength rows (suc n * N))
+
 -- a kernel accepted is removed; refused, the table stays
 abbrev pub stepLeaves : ℕ → ℕ → ℕ → List ℕ → List ℕ → List ℕ
 stepLeaves n N l row table = ifAccepted (checkKernel (entry N table) n N (each row) l) (explicit (removal (entry N table) n (each row) N) n N (left n N row table)) table

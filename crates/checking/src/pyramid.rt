@@ -3,7 +3,6 @@ use super::kernel::mark_row;
 use super::kernel::removable;
 use super::kernel::remove;
 use super::kernel::whole;
-use super::map::map_refused;
 use answers::Check;
 use answers::Dim;
 use answers::Level;
@@ -16,14 +15,14 @@ ghost use lib.Dec.{eqb};
 ghost use Rattle.maps.specs.Mark.{isMark, stay};
 ghost use Rattle.maps.specs.Table.{entry, each, listed};
 ghost use Rattle.maps.specs.Folded.{addΛ, addΔ};
+ghost use Rattle.maps.specs.Verdict.{accepted};
 ghost use Rattle.maps.specs.Check.{check8, checkKernel};
 ghost use Rattle.maps.specs.CheckPyramid.{checkLent, checkLeaves};
 ghost use Rattle.maps.specs.AddLevel.{addLent, addHeight, addLambda, addDelta, addLeaves};
 ghost use Rattle.facts.proofs.Adding.{Row};
 ghost use Rattle.answers.specs.Numbers.{verdictOf};
-ghost use Rattle.checking.specs.InTable.{Rows};
 ghost use Rattle.checking.specs.Ready.{Tested};
-ghost use Rattle.checking.specs.Climb.{lentSizes, stepLeaves, Base, climbs, climbLeaves, baseAndMarks};
+ghost use Rattle.checking.specs.Climb.{lentSizes, baseSizes, stepLeaves, Base, climbs, climbLeaves, baseAndMarks};
 ghost use Rattle.checking.specs.Added.{addedOf, heightOf, addSizes, rowMarks, addMarks, ascends, ascendLeaves};
 
 // Numbers 1 to 4 of base rows, marks and a table.
@@ -74,10 +73,10 @@ fn marks_checked(n: Dim, darts: u16, h: Level, lambda: &[u8], delta: &[u8]) -> C
 
 // Numbers 5 to 8, before anything lent is written.
 fn base_and_marks(n: Dim, darts: u16, h: Level, rows: &[u16], lambda: &[u8], delta: &[u8]) -> Check
-    requires { ⌜ Rows (n .0) darts (now rows) × (length (now lambda) ≡ darts) × (length (now delta) ≡ darts) ⌝ }
+    requires { ⌜ (baseSizes (n .0) darts (now rows) ≡ accepted) × (length (now lambda) ≡ darts) × (length (now delta) ≡ darts) ⌝ }
     ensures { λ r. ⌜ verdictOf r ≡ baseAndMarks (n .0) darts (h .0) (now (rows .entry)) (now (lambda .entry)) (now (delta .entry)) ⌝ }
 {
-    if let Check::Refused(r) = map_refused(false, rows, n, darts) {
+    if let Check::Refused(r) = bases::check_base(n, darts, rows) {
         return Check::Refused(r);
     }
     marks_checked(n, darts, h, lambda, delta)
@@ -214,7 +213,7 @@ fn add_marked(
     delta: &[u8],
     row: &[u8],
 ) -> Check
-    requires { ⌜ Rows (n .0) darts (now rows) × (length (now lambda) ≡ darts) × (length (now delta) ≡ darts) × (length (now row) ≡ darts) ⌝ }
+    requires { ⌜ (baseSizes (n .0) darts (now rows) ≡ accepted) × (length (now lambda) ≡ darts) × (length (now delta) ≡ darts) × (length (now row) ≡ darts) ⌝ }
     ensures { λ r. ⌜ verdictOf r ≡ addMarks (n .0) darts (h .0) (now (rows .entry)) (now (lambda .entry)) (now (delta .entry)) (now (row .entry)) ⌝ }
 {
     if let Check::Refused(r) = base_and_marks(n, darts, h, rows, lambda, delta) {

@@ -76,17 +76,17 @@ fn unchecked_reading() {
 }
 
 fn dimensions() {
-    checked(b"n 4", checking::check_base(Dim(4), 1, &[0u16; 5]));
-    checked(b"n 5", checking::check_base(Dim(5), 1, &[0u16; 6]));
+    checked(b"n 4", bases::check_base(Dim(4), 1, &[0u16; 5]));
+    checked(b"n 5", bases::check_base(Dim(5), 1, &[0u16; 6]));
 }
 
 fn darts() {
     let mut rows = [0u16; 8192];
     free_rows(4096, &mut rows);
-    checked(b"N 4096", checking::check_base(Dim(1), 4096, &rows));
+    checked(b"N 4096", bases::check_base(Dim(1), 4096, &rows));
     let mut more = [0u16; 8194];
     free_rows(4097, &mut more);
-    checked(b"N 4097", checking::check_base(Dim(1), 4097, &more));
+    checked(b"N 4097", bases::check_base(Dim(1), 4097, &more));
 }
 
 fn heights() {

@@ -8,8 +8,8 @@ use Rattle.records.specs.Answers.{takenOf}
 use Rattle.answers.proofs.sizes.Reads as sizes
 use Rattle.answers.proofs.marks_refused.Reads as marks-refused
 use Rattle.answers.proofs.numbers_of.Reads as numbers-of
-use Rattle.checking.proofs.check_base.Reads as check-base
-use Rattle.checking.proofs.check_explicit.Reads as check-explicit
+use Rattle.bases.proofs.check_base.Reads as check-base
+use Rattle.bases.proofs.check_explicit.Reads as check-explicit
 use Rattle.checking.proofs.check.Reads as check
 use Rattle.checking.proofs.add.Reads as add
 use Rattle.rows.proofs.marks_of.Reads as marks-of

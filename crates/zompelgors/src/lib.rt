@@ -294,7 +294,7 @@ fn taken_as(answer: records::Taken) -> ZgRecord
 pub extern "C" fn zg_check_base(n: u8, darts: u16, rows: &[u16]) -> ZgRefusal
     ensures { λ r. ⌜ r ≡ refusalFor (checkBase n darts (now (rows .entry))) ⌝ }
 {
-    checked(checking::check_base(Dim(n), darts, rows))
+    checked(bases::check_base(Dim(n), darts, rows))
 }
 
 // Checks a whole pyramid.

@@ -6,7 +6,7 @@ use Rattle.zompelgors.proofs.zg_check_base.Statement.{statement}
 use Rattle.zompelgors.proofs.zg_check_base.Tie as tie
 use Rattle.zompelgors.proofs.zg_check_base.Reads as reads
 use Rattle.zompelgors.proofs.zg_check_base.Lts as lts
-use Rattle.checking.proofs.check_base.Reads as check-base-reads
+use Rattle.bases.proofs.check_base.Reads as check-base-reads
 use Rattle.zompelgors.proofs.checked.Reads as checked-reads
 
 check-base-requires : tie.Need-check-base-requires

@@ -9,7 +9,7 @@ use Rattle.facts.proofs.Verdicts.{then-accepted}
 use Rattle.answers.specs.Numbers.{verdictOf}
 use Rattle.checking.specs.Climb.{baseAndMarks}
 use Rattle.checking.specs.Added.{addSizes, rowMarks, addMarks}
-use Rattle.checking.proofs.ClimbCheck.{Lent, lent-rows, copied-based}
+use Rattle.checking.proofs.ClimbCheck.{Lent, copied-based}
 use Rattle.checking.proofs.AddCheck.{add-facts, row-marks, sizes-refused, marks-refused, ascend-refused, grown}
 use Rattle.checking.proofs.pyramid.add.Statement.{statement}
 use Rattle.checking.proofs.pyramid.add.Tie as tie
@@ -61,9 +61,8 @@ enum-told c = search needs
 
 add-marked-requires : tie.Need-add-marked-requires
 add-marked-requires c κs =
-    let a = c .before .before .before .before .before .before .before .before .before .before .before .before .before .args in
     let f = facts (c .before .before) in
-    (lent-rows (a .n .0) (a .darts) (a .h .0) (now (a .rows)) (now (a .lambda)) (now (a .delta)) (now (a .table)) (f .0), f .0 .lambda-long, f .0 .delta-long, f .1)
+    (f .0 .base, f .0 .lambda-long, f .0 .delta-long, f .1)
 
 enum-known-r-2 : tie.Need-enum-known-r-2
 enum-known-r-2 c = search needs

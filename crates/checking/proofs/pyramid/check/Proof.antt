@@ -5,7 +5,7 @@ use borrow.Author.Needs.{needs}
 use Rattle.maps.specs.Verdict.{accepted}
 use Rattle.answers.specs.Numbers.{verdictOf}
 use Rattle.checking.specs.Climb.{lentSizes, baseAndMarks}
-use Rattle.checking.proofs.ClimbCheck.{Lent, lent-facts, lent-rows, copied-based, check-sizes, check-marks, check-climbed}
+use Rattle.checking.proofs.ClimbCheck.{Lent, lent-facts, copied-based, check-sizes, check-marks, check-climbed}
 use Rattle.checking.proofs.pyramid.check.Statement.{statement}
 use Rattle.checking.proofs.pyramid.check.Tie as tie
 use Rattle.checking.proofs.pyramid.check.Reads as reads
@@ -44,9 +44,8 @@ enum-told c = search needs
 
 base-and-marks-requires : tie.Need-base-and-marks-requires
 base-and-marks-requires c κs =
-    let a = c .before .before .before .before .before .before .before .before .args in
     let f = facts c in
-    (lent-rows (a .n .0) (a .darts) (a .h .0) (now (a .rows)) (now (a .lambda)) (now (a .delta)) (now (a .table)) f, f .lambda-long, f .delta-long)
+    (f .base, f .lambda-long, f .delta-long)
 
 enum-known-r-2 : tie.Need-enum-known-r-2
 enum-known-r-2 c = search needs

@@ -1,0 +1,89 @@
+-- `bases::number6` meets its contract. Each loop's invariant says that no place before is refused. Assumes nothing.
+use mathlib.Core.Path.{_≡_, refl, sym, ap, _∙_}
+use mathlib.Core.Bool.{false}
+use Prim.Native.Nat.{ℕ, suc, _-_, _≤_, _<_, zero-le}
+use native.Mathlib.Omega.{arith}
+use denote.Ref.{now}
+use borrow.Author.Count.{below-none, below-more}
+use borrow.Author.Needs.{needs}
+use Rattle.maps.specs.Check.{at6, check6}
+use Rattle.bases.specs.Places.{refusedAt}
+use Rattle.bases.specs.declared.Place.the-variants.{Nowhere}
+use Rattle.bases.specs.InTable.{notTwiceIn}
+use Rattle.bases.proofs.Places.{rows-row, rows-none, rows-first, inside}
+use Rattle.bases.proofs.number6.Statement.{statement}
+use Rattle.bases.proofs.number6.Tie as tie
+use Rattle.bases.proofs.number6.Reads as reads
+use Rattle.bases.proofs.number6.Lts as lts
+use Rattle.bases.proofs.not_twice.Reads as not-twice-reads
+
+abbrev Inv-loop : tie.InvT-loop
+Inv-loop explicit table darts found₀ i d₀ i-end found d = (d ≤ darts) × (i < i-end) × ((k : ℕ) → k < i → (e : ℕ) → e < darts → notTwiceIn explicit darts table k e ≡ false) × ((e : ℕ) → e < d → notTwiceIn explicit darts table i e ≡ false) × (found ≡ Nowhere)
+
+abbrev μ-loop : tie.MeasureT-loop
+μ-loop explicit table darts found₀ i d₀ i-end found d = darts - d
+
+abbrev Inv-rows : tie.InvT-rows
+Inv-rows explicit table darts found₀ i₀ i-end found i = (i ≤ i-end) × ((k : ℕ) → k < i → (e : ℕ) → e < darts → notTwiceIn explicit darts table k e ≡ false) × (found ≡ Nowhere)
+
+abbrev μ-rows : tie.MeasureT-rows
+μ-rows explicit table darts found₀ i₀ i-end found i = i-end - i
+
+add-i-end : tie.Need-add-i-end Inv-loop μ-loop Inv-rows μ-rows
+add-i-end c = search needs
+
+rows-holds : tie.Need-rows-holds Inv-loop μ-loop Inv-rows μ-rows
+rows-holds c = (zero-le, below-none _, refl)
+
+loop-holds : tie.Need-loop-holds Inv-loop μ-loop Inv-rows μ-rows
+loop-holds c = (zero-le, c .rows-test .taken, c .before .rows .inv .1, below-none _, c .before .rows .inv .2)
+
+not-twice-requires : tie.Need-not-twice-requires Inv-loop μ-loop Inv-rows μ-rows
+not-twice-requires c κs = let a = c .before .before .before .before .before .before .args in let p = c .before .before .before .before .before .before .pre in let i = c .before .before .before .rows .i in let li : i ≤ a .n .0 = omega arith in (rows-row (a .n .0) (a .darts) 0 (now (a .table)) (p .0) zero-le, rows-row (a .n .0) (a .darts) i (now (a .table)) (p .0) li, c .loop-test .taken, inside (a .explicit) (a .n .0) (a .darts) (now (a .table)) (p .1) i (c .before .loop .d) li (c .loop-test .taken))
+
+add-d : tie.Need-add-d Inv-loop μ-loop Inv-rows μ-rows
+add-d c = search needs
+
+loop-less : tie.Need-loop-less Inv-loop μ-loop Inv-rows μ-rows
+loop-less c = search needs
+
+loop-again : tie.Need-loop-again Inv-loop μ-loop Inv-rows μ-rows
+loop-again c = let v = c .before .before .before .loop .inv in (omega arith, v .1, v .2, below-more _ _ (v .3) (sym (c .before .not-twice .ensures) ∙ c .if1 .left), v .4)
+
+add-i : tie.Need-add-i Inv-loop μ-loop Inv-rows μ-rows
+add-i c = search needs
+
+rows-less : tie.Need-rows-less Inv-loop μ-loop Inv-rows μ-rows
+rows-less c = search needs
+
+rows-again : tie.Need-rows-again Inv-loop μ-loop Inv-rows μ-rows
+rows-again c = let v = c .before .loop .inv in let e : c .before .loop .d ≡ c .before .before .before .before .before .before .args .darts = omega arith in (omega arith, below-more _ _ (v .2) (λ k l. v .3 k (omega arith)), v .4)
+
+returns : tie.Need-returns Inv-loop μ-loop Inv-rows μ-rows
+unfolding at6 check6
+returns c = let a = c .before .before .before .before .args in let v = c .before .rows .inv in ap (refusedAt 6) (v .2) ∙ sym (rows-none 6 (a .darts) (λ x. x) (notTwiceIn (a .explicit) (a .darts) (now (a .table))) (suc (a .n .0)) (λ k l. v .1 k (omega arith)))
+
+returns-2 : tie.Need-returns-2 Inv-loop μ-loop Inv-rows μ-rows
+unfolding at6 check6
+returns-2 c = let a = c .before .before .before .before .before .before .before .before .args in let v = c .before .before .before .loop .inv in sym (rows-first 6 (a .darts) (λ x. x) (notTwiceIn (a .explicit) (a .darts) (now (a .table))) (suc (a .n .0)) (c .before .before .before .before .before .rows .i) (c .before .before .before .loop .d) (omega arith) (c .before .before .loop-test .taken) (v .2) (v .3) (sym (c .before .not-twice .ensures) ∙ c .if1 .taken))
+
+pub number6-spec : {M : Type 1} → statement M
+number6-spec =
+    tie.close
+    (tie.spec
+    Inv-loop
+    μ-loop
+    Inv-rows
+    μ-rows
+    add-i-end
+    rows-holds
+    loop-holds
+    not-twice-requires
+    add-d
+    loop-less
+    loop-again
+    add-i
+    rows-less
+    rows-again
+    returns
+    returns-2)

@@ -1,0 +1,19 @@
+-- `bases::there` meets its contract. Assumes nothing.
+use borrow.Author.Needs.{needs}
+use Rattle.bases.proofs.there.Statement.{statement}
+use Rattle.bases.proofs.there.Tie as tie
+use Rattle.bases.proofs.there.Reads as reads
+use Rattle.bases.proofs.there.Lts as lts
+use Rattle.bases.proofs.at.Reads as at-reads
+
+at-requires : tie.Need-at-requires
+at-requires c κs = search needs
+
+returns : tie.Need-returns
+returns c = cc
+
+returns-2 : tie.Need-returns-2
+returns-2 c = search needs
+
+pub there-spec : {M : Type 1} → statement M
+there-spec = tie.close (tie.spec at-requires returns returns-2)

@@ -1,0 +1,176 @@
+// Check a base, or an explicit level: numbers 1, 2, 4, 5, 6 and 7, with the first place that is refused. Assumes nothing.
+use answers::Check;
+use answers::Dim;
+use answers::Level;
+use answers::Refusal;
+ghost use mathlib.Core.Path.{_≡_};
+ghost use mathlib.Core.Bool.{true};
+ghost use Prim.Native.Nat.{_+_, _<_};
+ghost use Rattle.maps.specs.Verdict.{accepted};
+ghost use Rattle.maps.specs.Table.{entry};
+ghost use Rattle.maps.specs.CheckBase.{checkBase, checkExplicit};
+ghost use Rattle.answers.specs.Numbers.{verdictOf};
+ghost use Rattle.bases.specs.Places.{refusedAt};
+ghost use Rattle.bases.specs.InTable.{Row, Rows, presentIf, straysIn, notTwiceIn, notCommutingIn, check5In, check6In, check7In, checkMapIn, checkIn};
+
+// "The first place found is the one reported": its row and dart.
+enum Place {
+    Nowhere,
+    At(Dim, u16),
+}
+
+// The entry of dart d in row i.
+fn at(table: &[u16], darts: u16, i: Dim, d: u16) -> u16
+    requires { ⌜ Row darts (now table) (i .0) × (d < darts) ⌝ }
+    ensures { λ r. ⌜ r ≡ entry darts (now (table .entry)) (i .0) d ⌝ }
+{
+    table[i.0 as usize * darts as usize + d as usize]
+}
+
+// Is dart d present? In a base every dart is; in an explicit level, one whose row 0 holds another number than 65,535.
+fn there(explicit: bool, table: &[u16], darts: u16, d: u16) -> bool
+    requires { ⌜ Row darts (now table) 0 × (d < darts) ⌝ }
+    ensures { λ r. ⌜ r ≡ presentIf explicit darts (now (table .entry)) d ⌝ }
+{
+    if explicit {
+        return at(table, darts, Dim(0), d) != 65535;
+    }
+    true
+}
+
+// Is number 5 due at row i of dart d?
+fn strays(explicit: bool, table: &[u16], darts: u16, i: Dim, d: u16) -> bool
+    requires { ⌜ Row darts (now table) 0 × Row darts (now table) (i .0) × (d < darts) ⌝ }
+    ensures { λ r. ⌜ r ≡ straysIn explicit darts (now (table .entry)) (i .0) d ⌝ }
+{
+    let e = at(table, darts, i, d);
+    if there(explicit, table, darts, d) {
+        if darts <= e {
+            return true;
+        }
+        return !there(explicit, table, darts, e);
+    }
+    e != 65535
+}
+
+// Is number 6 due at row i of dart d? Where d is present, its entry there is a dart.
+fn not_twice(explicit: bool, table: &[u16], darts: u16, i: Dim, d: u16) -> bool
+    requires { ⌜ Row darts (now table) 0 × Row darts (now table) (i .0) × (d < darts) × (presentIf explicit darts (now table) d ≡ true → entry darts (now table) (i .0) d < darts) ⌝ }
+    ensures { λ r. ⌜ r ≡ notTwiceIn explicit darts (now (table .entry)) (i .0) d ⌝ }
+{
+    if there(explicit, table, darts, d) {
+        let e = at(table, darts, i, d);
+        return at(table, darts, i, e) != d;
+    }
+    false
+}
+
+// Is number 7 due at rows i and j of dart d? Where d is present, its entries there are darts.
+fn not_commuting(explicit: bool, table: &[u16], darts: u16, i: Dim, j: Dim, d: u16) -> bool
+    requires { ⌜ Row darts (now table) 0 × Row darts (now table) (i .0) × Row darts (now table) (j .0) × (i .0 + 1 < j .0) × (d < darts) × (presentIf explicit darts (now table) d ≡ true → (entry darts (now table) (i .0) d < darts) × (entry darts (now table) (j .0) d < darts)) ⌝ }
+    ensures { λ r. ⌜ r ≡ notCommutingIn explicit darts (now (table .entry)) (i .0) (j .0) d ⌝ }
+{
+    if there(explicit, table, darts, d) {
+        let by_i = at(table, darts, i, d);
+        let by_j = at(table, darts, j, d);
+        return at(table, darts, j, by_i) != at(table, darts, i, by_j);
+    }
+    false
+}
+
+// Number 5, sought over rows, then darts.
+fn number5(explicit: bool, table: &[u16], n: Dim, darts: u16) -> Place
+    requires { ⌜ Rows (n .0) darts (now table) ⌝ }
+    ensures { λ r. ⌜ refusedAt 5 r ≡ check5In explicit (n .0) darts (now (table .entry)) ⌝ }
+{
+    let mut found = Place::Nowhere;
+    'rows: for i in 0..n.0 + 1 {
+        for d in 0..darts {
+            if strays(explicit, table, darts, Dim(i), d) {
+                found = Place::At(Dim(i), d);
+                break 'rows;
+            }
+        }
+    }
+    found
+}
+
+// Number 6, sought over rows, then darts; 5 is not refused, so that each entry of a dart present is a dart.
+fn number6(explicit: bool, table: &[u16], n: Dim, darts: u16) -> Place
+    requires { ⌜ Rows (n .0) darts (now table) × (check5In explicit (n .0) darts (now table) ≡ accepted) ⌝ }
+    ensures { λ r. ⌜ refusedAt 6 r ≡ check6In explicit (n .0) darts (now (table .entry)) ⌝ }
+{
+    let mut found = Place::Nowhere;
+    'rows: for i in 0..n.0 + 1 {
+        for d in 0..darts {
+            if not_twice(explicit, table, darts, Dim(i), d) {
+                found = Place::At(Dim(i), d);
+                break 'rows;
+            }
+        }
+    }
+    found
+}
+
+// Number 7, sought over i, j, darts; pairs with j < i+2 are never refused.
+fn number7(explicit: bool, table: &[u16], n: Dim, darts: u16) -> Place
+    requires { ⌜ Rows (n .0) darts (now table) × (check5In explicit (n .0) darts (now table) ≡ accepted) ⌝ }
+    ensures { λ r. ⌜ refusedAt 7 r ≡ check7In explicit (n .0) darts (now (table .entry)) ⌝ }
+{
+    let mut found = Place::Nowhere;
+    'rows: for i in 0..n.0 + 1 {
+        for j in i + 2..n.0 + 1 {
+            for d in 0..darts {
+                if not_commuting(explicit, table, darts, Dim(i), Dim(j), d) {
+                    found = Place::At(Dim(i), d);
+                    break 'rows;
+                }
+            }
+        }
+    }
+    found
+}
+
+// Numbers 5, 6 and 7, in this order, of a table of the exact length.
+fn map_refused(explicit: bool, table: &[u16], n: Dim, darts: u16) -> Check
+    requires { ⌜ Rows (n .0) darts (now table) ⌝ }
+    ensures { λ r. ⌜ verdictOf r ≡ checkMapIn explicit (n .0) darts (now (table .entry)) ⌝ }
+{
+    if let Place::At(i, d) = number5(explicit, table, n, darts) {
+        return Check::Refused(Refusal::Strays(Level(0), i, d));
+    }
+    if let Place::At(i, d) = number6(explicit, table, n, darts) {
+        return Check::Refused(Refusal::NotTwice(i, d));
+    }
+    if let Place::At(i, d) = number7(explicit, table, n, darts) {
+        return Check::Refused(Refusal::NotCommuting(i, d));
+    }
+    Check::Accepted
+}
+
+// Numbers 1, 2, 4, 5, 6 and 7.
+fn check_table(explicit: bool, table: &[u16], n: Dim, darts: u16) -> Check
+    ensures { λ r. ⌜ verdictOf r ≡ checkIn explicit (n .0) darts (now (table .entry)) ⌝ }
+{
+    if let Check::Refused(r) = answers::sizes(n, darts, Level(0)) {
+        return Check::Refused(r);
+    }
+    if table.len() != (n.0 as usize + 1) * darts as usize {
+        return Check::Refused(Refusal::Length);
+    }
+    map_refused(explicit, table, n, darts)
+}
+
+// Check a base.
+pub fn check_base(n: Dim, darts: u16, rows: &[u16]) -> Check
+    ensures { λ r. ⌜ verdictOf r ≡ checkBase (n .0) darts (now (rows .entry)) ⌝ }
+{
+    check_table(false, rows, n, darts)
+}
+
+// Check an explicit level.
+pub fn check_explicit(n: Dim, darts: u16, table: &[u16]) -> Check
+    ensures { λ r. ⌜ verdictOf r ≡ checkExplicit (n .0) darts (now (table .entry)) ⌝ }
+{
+    check_table(true, table, n, darts)
+}
