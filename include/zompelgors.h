@@ -22,10 +22,15 @@ extern "C" {
  *   marks    a mark row, N entries: below n, remove with that dimension; 255, stay
  *   words    survivor words, 64 entries: dart d at bit d mod 64 of word d div 64
  *
- * Every length is in entries, not bytes, and must be exact (zg_take alone takes longer ones). A pointer must be good
- * for the length that is given with it, also where that length is wrong; at length 0 it must still not be null.
- * Memory is lent for the call only; no pointer is kept. Memory that is not const must not overlap any other memory
- * lent to the same call. What table, marks and words held before is not read, unless the pointer is const.
+ * Every length is in entries, not bytes, and must be exact (zg_take alone takes longer ones). A pointer must be aligned
+ * as its type asks and good for the length that is given with it, also where that length is wrong; at length 0 it must
+ * still not be null, but any other address will do. Memory is lent for the call only; no pointer is kept. Memory that is
+ * not const must not overlap any other memory lent to the same call; const memory may overlap const memory. What table,
+ * marks and words held before is not read, unless the pointer is const.
+ *
+ * Nothing is allocated and nothing is kept between calls, so calls may run at once on several threads where none writes
+ * what another is lent. zg_mark takes the most stack, between 12 and 13 KiB; docs/INTEGRATING.md has them all, with the
+ * bytes to lend and the bounds on reads.
  *
  * What is returned
  *
@@ -78,7 +83,7 @@ zg_refusal zg_check(uint8_t n, uint16_t darts, uint8_t h, const uint16_t *rows, 
  * table holds the new top level.
  * Refused 1, 2, 3, 4, 20, 5, 6, 7, 8, 9, 10: as zg_check; 8 for lambda and delta (level 0) comes before 8 for marks
  * (level h). height is then h as given. After 9 or 10 table holds the explicit level whose kernel failed, which may be
- * any from 0 to h, and lambda and delta are untouched; after any other number all is.
+ * any from 0 to h, and lambda and delta are untouched; after any other number nothing lent has changed.
  */
 zg_height zg_add(uint8_t n, uint16_t darts, uint8_t h, const uint16_t *rows, size_t rows_len, uint8_t *lambda, size_t lambda_len, uint8_t *delta, size_t delta_len, const uint8_t *marks, size_t marks_len, uint16_t *table, size_t table_len);
 
@@ -104,6 +109,7 @@ zg_reading zg_read(uint8_t n, uint16_t darts, uint8_t h, const uint16_t *rows, s
  * The same question answered level by level, each step a reading one level lower, down to the base. Lent, returned
  * and refused as zg_read, with one difference: 14 is also given where a dart on the way isn't in the kernel below the
  * level being read with the dimension of the row walked by. Where it isn't refused 14, all fields are those of zg_read.
+ * It calls itself level + 1 deep.
  */
 zg_reading zg_read_by_levels(uint8_t n, uint16_t darts, uint8_t h, const uint16_t *rows, size_t rows_len, const uint8_t *lambda, size_t lambda_len, const uint8_t *delta, size_t delta_len, uint8_t level, uint8_t involution, uint16_t dart);
 

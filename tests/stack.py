@@ -1,0 +1,58 @@
+#!/usr/bin/env python3
+"""Prints the stack that each function of the C library takes, in bytes: its return address, registers saved, locals
+and what it passes on, then those of its callees; read out of the code.   python3 tests/stack.py [LIBRARY]"""
+import re, subprocess, sys
+
+# A function that calls itself is one of the reading by levels: once for each level, 0 to 32.
+LEVELS = 33
+
+
+def disassembled(library):
+    """For each function its instructions; a call's target is in the relocation below it, or in the call itself."""
+    command = ["objdump", "-dr", "-M", "intel", "--no-show-raw-insn", library]
+    functions = {}
+    for line in subprocess.run(command, check=True, capture_output=True, text=True).stdout.splitlines():
+        head = re.match(r"[0-9a-f]+ <(.*)>:$", line)
+        if head:
+            lines = functions.setdefault(head[1], [])
+        elif "\t" in line and functions:
+            lines.append(line.split("\t", 1)[1].strip())
+    return functions
+
+
+def taken(line):
+    """Bytes by which an instruction lowers the stack pointer."""
+    if line.startswith("push"):
+        return 8
+    lowered = re.match(r"sub +rsp,(0x[0-9a-f]+)", line)
+    return int(lowered[1], 16) if lowered else 0
+
+
+def frame(lines):
+    """Return address and what the prologue takes; then the most that is pushed on for one call."""
+    at = 0
+    while taken(lines[at]) or "[rsp],0x0" in lines[at]:
+        at += 1
+    most = passed = 0
+    for line in lines[at:]:
+        passed = 0 if line.startswith("call") else passed + taken(line)
+        most = max(most, passed)
+    return 8 + sum(map(taken, lines[:at])) + most
+
+
+def callees(lines, functions):
+    """The library's functions among those called; memset and its like are the C library's."""
+    names = re.findall(r"(?:R_X86_64_PLT32\s+(?:\.text\.)?|call .*<)(.*?)(?:-0x4|>)(?:\n|$)", "\n".join(lines))
+    return {name for name in names if name in functions}
+
+
+def stack(name, functions):
+    below = callees(functions[name], functions)
+    own = frame(functions[name]) * (LEVELS if name in below else 1)
+    return own + max((stack(f, functions) for f in below - {name}), default=0)
+
+
+functions = disassembled(sys.argv[1] if len(sys.argv) > 1 else "target/staticlib/libzompelgors.a")
+for name in sorted(functions):
+    if name.startswith("zg_"):
+        print(f"{stack(name, functions):6} {name}")
