@@ -1,5 +1,5 @@
 #!/bin/bash
-# Compares the library with the vectors, with an independent implementation and with CGAL.
+# Compares the library with the vectors, with an independent implementation and with CGAL, and runs the Rust tests.
 #
 #   LIB       the library, default target/staticlib/libzompelgors.a
 #   COUNT     random cases, default 1,000,000; SEED the first seed, default 1
@@ -68,6 +68,24 @@ done
 folder=$BUILD vectors prefixes "library" "${run[@]}" "$BUILD/answer"
 report "random, large and damaged" "$BUILD/random.txt" "${run[@]}" "$BUILD/compare" --random "$SEED" "$COUNT"
 report "CGAL" "$BUILD/cgal.txt" "${run[@]}" "$BUILD/cgal" "$SEED" "$PYRAMIDS"
+
+# rust_tests: the tests of rust/, all their results in one last line.
+rust_tests() {
+    local out=$BUILD/cargo.txt
+    (cd rust && ZOMPELGORS_LIB=$folder_of_library CARGO_TARGET_DIR=$cargo_target cargo test --offline) >"$out" 2>&1
+    local code=$?
+    cat "$out"
+    [ $code -ne 0 ] || awk '/^test result/ { p += $4; f += $6 } END { print p " passed, " f " failed" }' "$out"
+    return $code
+}
+folder_of_library=$(cd "$(dirname "$LIB")" && pwd) cargo_target=$(cd "$BUILD" && pwd)/rust
+if ! command -v cargo >/dev/null; then
+    echo "Rust: not run, missing Debian package: cargo"
+elif [ ${#run[@]} -gt 0 ] || [ "${LIB##*/}" != libzompelgors.a ]; then
+    echo "Rust: not run, it links libzompelgors.a on x86-64 only"
+else
+    report "Rust" "$BUILD/rust.txt" rust_tests
+fi
 echo
 echo "How often each number occurred in the random cases (0: accepted)"
 grep -v '^case\|^independent\|^library' "$BUILD/random.txt" | sed '$d'

@@ -1,0 +1,220 @@
+//! Pyramids of generalized maps in folded form: safe functions over the proved library libzompelgors.a.
+//!
+//! Every function takes slices that are lent for the call and answers any content and any length; include/zompelgors.h
+//! says what is lent, in which order the numbers of refusal are tested, and what a refusal leaves behind.
+//!
+//! ```
+//! use zompelgors::{Dimension, Level, Pyramid};
+//!
+//! // A segment whose vertex {1} is removed by kernel 0.
+//! let pyramid = Pyramid {
+//!     n: Dimension(1),
+//!     darts: 2,
+//!     h: Level(1),
+//!     rows: &[1, 0, 0, 1],
+//!     lambda: &[1, 0],
+//!     delta: &[1, 0],
+//! };
+//! let mut table = [0; 4];
+//! pyramid.check(&mut table)?;
+//! let reading = pyramid.read(Level(1), Dimension(0), 0)?;
+//! assert_eq!((reading.neighbour, reading.count), (0, 3));
+//! # Ok::<(), zompelgors::Refusal>(())
+//! ```
+//!
+//! A level is no dimension:
+//!
+//! ```compile_fail,E0308
+//! # use zompelgors::{Dimension, Level, Pyramid};
+//! fn swapped(pyramid: &Pyramid) {
+//!     let _ = pyramid.read(Dimension(0), Level(1), 0);
+//! }
+//! ```
+#![deny(unsafe_op_in_unsafe_fn)]
+
+mod answers;
+mod pyramid;
+pub mod raw;
+
+pub use answers::{Dimension, Header, Level, Reading, Refusal};
+pub use pyramid::Pyramid;
+
+/// In a mark row: the dart stays.
+pub const STAY: u8 = 255;
+
+/// Every entry of a removed dart in an explicit level.
+pub const NONE: u16 = 65_535;
+
+/// How many survivor words there are.
+pub const WORDS: usize = 64;
+
+/// Checks a base.
+pub fn check_base(n: Dimension, darts: u16, rows: &[u16]) -> Result<(), Refusal> {
+    // Safety: the pointer comes from a slice with its length.
+    let answer = unsafe { raw::zg_check_base(n.0, darts, rows.as_ptr(), rows.len()) };
+    answer.accepted().map(|_| ())
+}
+
+/// Adds a level on top, with the marks as kernel h: the new height. Λ and Δ grow with it, and the table holds the new
+/// top level.
+#[allow(clippy::too_many_arguments)]
+pub fn add(
+    n: Dimension,
+    darts: u16,
+    h: Level,
+    rows: &[u16],
+    lambda: &mut [u8],
+    delta: &mut [u8],
+    marks: &[u8],
+    table: &mut [u16],
+) -> Result<Level, Refusal> {
+    // Safety: every pointer comes from a slice with its own length, and only exclusive ones are written through.
+    let answer = unsafe {
+        raw::zg_add(
+            n.0,
+            darts,
+            h.0,
+            rows.as_ptr(),
+            rows.len(),
+            lambda.as_mut_ptr(),
+            lambda.len(),
+            delta.as_mut_ptr(),
+            delta.len(),
+            marks.as_ptr(),
+            marks.len(),
+            table.as_mut_ptr(),
+            table.len(),
+        )
+    };
+    answer.accepted().map(|r| Level(r.height))
+}
+
+/// Reads the mark row of a level back: Δ where Λ is that level, else [`STAY`]; for level h [`STAY`] throughout.
+pub fn marks(
+    n: Dimension,
+    darts: u16,
+    h: Level,
+    lambda: &[u8],
+    delta: &[u8],
+    level: Level,
+    marks: &mut [u8],
+) -> Result<(), Refusal> {
+    // Safety: every pointer comes from a slice with its own length, and only the exclusive one is written through.
+    let answer = unsafe {
+        raw::zg_marks(
+            n.0,
+            darts,
+            h.0,
+            lambda.as_ptr(),
+            lambda.len(),
+            delta.as_ptr(),
+            delta.len(),
+            level.0,
+            marks.as_mut_ptr(),
+            marks.len(),
+        )
+    };
+    answer.accepted().map(|_| ())
+}
+
+/// A row of a level: for level 0 a part of the base rows, for any other a part of the unfolded level, and no copy.
+pub fn row<'a>(
+    n: Dimension,
+    darts: u16,
+    h: Level,
+    base: &'a [u16],
+    unfolded: &'a [u16],
+    level: Level,
+    involution: Dimension,
+) -> Result<&'a [u16], Refusal> {
+    // Safety: both pointers come from a slice with its own length.
+    let answer = unsafe {
+        raw::zg_row(
+            n.0,
+            darts,
+            h.0,
+            base.as_ptr(),
+            base.len(),
+            unfolded.as_ptr(),
+            unfolded.len(),
+            level.0,
+            involution.0,
+        )
+    };
+    let part = answer.accepted()?;
+    let lent = if part.unfolded == 0 { base } else { unfolded };
+    Ok(&lent[usize::from(part.start)..][..usize::from(part.length)])
+}
+
+/// The survivor words of a level ([`WORDS`] of them), with the survivor count.
+pub fn survivors(
+    darts: u16,
+    h: Level,
+    lambda: &[u8],
+    level: Level,
+    words: &mut [u64],
+) -> Result<u32, Refusal> {
+    // Safety: both pointers come from a slice with its own length, and only the exclusive one is written through.
+    let answer = unsafe {
+        raw::zg_survivors(
+            darts,
+            h.0,
+            lambda.as_ptr(),
+            lambda.len(),
+            level.0,
+            words.as_mut_ptr(),
+            words.len(),
+        )
+    };
+    answer.accepted().map(|r| r.count)
+}
+
+/// Marks the removable cells of one dimension on an explicit level; all other darts get [`STAY`].
+pub fn mark(
+    n: Dimension,
+    darts: u16,
+    table: &[u16],
+    dimension: Dimension,
+    marks: &mut [u8],
+) -> Result<(), Refusal> {
+    // Safety: both pointers come from a slice with its own length, and only the exclusive one is written through.
+    let answer = unsafe {
+        raw::zg_mark(
+            n.0,
+            darts,
+            table.as_ptr(),
+            table.len(),
+            dimension.0,
+            marks.as_mut_ptr(),
+            marks.len(),
+        )
+    };
+    answer.accepted().map(|_| ())
+}
+
+/// Takes a record to the front of lent slices; its values are not checked ([`Pyramid::check`] does that).
+pub fn take(
+    bytes: &[u8],
+    rows: &mut [u16],
+    lambda: &mut [u8],
+    delta: &mut [u8],
+) -> Result<Header, Refusal> {
+    // Safety: every pointer comes from a slice with its own length, and only exclusive ones are written through.
+    let answer = unsafe {
+        raw::zg_take(
+            bytes.as_ptr(),
+            bytes.len(),
+            rows.as_mut_ptr(),
+            rows.len(),
+            lambda.as_mut_ptr(),
+            lambda.len(),
+            delta.as_mut_ptr(),
+            delta.len(),
+        )
+    };
+    answer.accepted().map(|r| Header {
+        n: Dimension(r.n),
+        h: Level(r.h),
+        darts: r.darts,
+    })
+}

@@ -1,0 +1,148 @@
+//! A folded pyramid, borrowed, and the jobs that take one.
+use crate::answers::{Dimension, Level, Reading, Refusal};
+use crate::raw;
+
+/// A pyramid in folded form: n, N and h, the base rows, and Λ and Δ of each dart. Nothing is presumed of them; each job
+/// tests what it needs.
+#[derive(Clone, Copy, Debug)]
+pub struct Pyramid<'a> {
+    pub n: Dimension,
+    pub darts: u16,
+    pub h: Level,
+    pub rows: &'a [u16],
+    pub lambda: &'a [u8],
+    pub delta: &'a [u8],
+}
+
+impl<'a> Pyramid<'a> {
+    /// Checks the whole pyramid; accepted, the table holds the explicit level h.
+    pub fn check(&self, table: &mut [u16]) -> Result<(), Refusal> {
+        // Safety: every pointer comes from a slice with its own length, and only the exclusive one is written through.
+        let answer = unsafe {
+            raw::zg_check(
+                self.n.0,
+                self.darts,
+                self.h.0,
+                self.rows.as_ptr(),
+                self.rows.len(),
+                self.lambda.as_ptr(),
+                self.lambda.len(),
+                self.delta.as_ptr(),
+                self.delta.len(),
+                table.as_mut_ptr(),
+                table.len(),
+            )
+        };
+        answer.accepted().map(|_| ())
+    }
+
+    /// One neighbour on a level by the direct walk, on any tables, checked before or not.
+    pub fn read(&self, level: Level, involution: Dimension, dart: u16) -> Result<Reading, Refusal> {
+        // Safety: every pointer comes from a slice with its own length.
+        let answer = unsafe {
+            raw::zg_read(
+                self.n.0,
+                self.darts,
+                self.h.0,
+                self.rows.as_ptr(),
+                self.rows.len(),
+                self.lambda.as_ptr(),
+                self.lambda.len(),
+                self.delta.as_ptr(),
+                self.delta.len(),
+                level.0,
+                involution.0,
+                dart,
+            )
+        };
+        answer.accepted().map(|r| Reading {
+            neighbour: r.neighbour,
+            count: r.count,
+        })
+    }
+
+    /// The same question answered level by level, each step a reading one level lower, down to the base.
+    pub fn read_by_levels(
+        &self,
+        level: Level,
+        involution: Dimension,
+        dart: u16,
+    ) -> Result<Reading, Refusal> {
+        // Safety: every pointer comes from a slice with its own length.
+        let answer = unsafe {
+            raw::zg_read_by_levels(
+                self.n.0,
+                self.darts,
+                self.h.0,
+                self.rows.as_ptr(),
+                self.rows.len(),
+                self.lambda.as_ptr(),
+                self.lambda.len(),
+                self.delta.as_ptr(),
+                self.delta.len(),
+                level.0,
+                involution.0,
+                dart,
+            )
+        };
+        answer.accepted().map(|r| Reading {
+            neighbour: r.neighbour,
+            count: r.count,
+        })
+    }
+
+    /// Unfolds a whole level into the table; the total count of base entries read.
+    pub fn unfold(&self, level: Level, table: &mut [u16]) -> Result<u32, Refusal> {
+        // Safety: every pointer comes from a slice with its own length, and only the exclusive one is written through.
+        let answer = unsafe {
+            raw::zg_unfold(
+                self.n.0,
+                self.darts,
+                self.h.0,
+                self.rows.as_ptr(),
+                self.rows.len(),
+                self.lambda.as_ptr(),
+                self.lambda.len(),
+                self.delta.as_ptr(),
+                self.delta.len(),
+                level.0,
+                table.as_mut_ptr(),
+                table.len(),
+            )
+        };
+        answer.accepted().map(|r| r.count)
+    }
+
+    /// The mark row of a level, read back: [`crate::marks`].
+    pub fn marks(&self, level: Level, marks: &mut [u8]) -> Result<(), Refusal> {
+        crate::marks(
+            self.n,
+            self.darts,
+            self.h,
+            self.lambda,
+            self.delta,
+            level,
+            marks,
+        )
+    }
+
+    /// A row of a level, a part of the base rows or of the unfolded level: [`crate::row`].
+    pub fn row<'b>(
+        &self,
+        unfolded: &'b [u16],
+        level: Level,
+        involution: Dimension,
+    ) -> Result<&'b [u16], Refusal>
+    where
+        'a: 'b,
+    {
+        crate::row(
+            self.n, self.darts, self.h, self.rows, unfolded, level, involution,
+        )
+    }
+
+    /// The survivor words of a level, with the survivor count: [`crate::survivors`].
+    pub fn survivors(&self, level: Level, words: &mut [u64]) -> Result<u32, Refusal> {
+        crate::survivors(self.darts, self.h, self.lambda, level, words)
+    }
+}

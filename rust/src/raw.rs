@@ -1,0 +1,168 @@
+//! The C interface as include/zompelgors.h declares it; what each function does and asks stands there.
+
+macro_rules! answers {
+    ($($(#[$said:meta])* $name:ident { $($field:ident: $kind:ty),* })*) => {
+        $(
+            $(#[$said])*
+            #[repr(C)]
+            #[derive(Clone, Copy, Debug)]
+            pub struct $name {
+                pub number: u16,
+                pub level: u16,
+                pub involution: u16,
+                pub dart: u16,
+                $(pub $field: $kind,)*
+            }
+        )*
+    };
+}
+
+answers! {
+    /// `zg_refusal`: all 0 where accepted.
+    ZgRefusal {}
+    /// `zg_reading`
+    ZgReading { count: u32, neighbour: u16 }
+    /// `zg_count`: an unfolding's total; survivors.
+    ZgCount { count: u32 }
+    /// `zg_height`: after an add; as given in a refusal.
+    ZgHeight { height: u8 }
+    /// `zg_part`: unfolded 0: a part of base, 1: of unfolded.
+    ZgPart { unfolded: u8, start: u16, length: u16 }
+    /// `zg_record`
+    ZgRecord { n: u8, h: u8, darts: u16 }
+}
+
+extern "C" {
+    pub fn zg_check_base(n: u8, darts: u16, rows: *const u16, rows_len: usize) -> ZgRefusal;
+
+    pub fn zg_check(
+        n: u8,
+        darts: u16,
+        h: u8,
+        rows: *const u16,
+        rows_len: usize,
+        lambda: *const u8,
+        lambda_len: usize,
+        delta: *const u8,
+        delta_len: usize,
+        table: *mut u16,
+        table_len: usize,
+    ) -> ZgRefusal;
+
+    pub fn zg_add(
+        n: u8,
+        darts: u16,
+        h: u8,
+        rows: *const u16,
+        rows_len: usize,
+        lambda: *mut u8,
+        lambda_len: usize,
+        delta: *mut u8,
+        delta_len: usize,
+        marks: *const u8,
+        marks_len: usize,
+        table: *mut u16,
+        table_len: usize,
+    ) -> ZgHeight;
+
+    pub fn zg_marks(
+        n: u8,
+        darts: u16,
+        h: u8,
+        lambda: *const u8,
+        lambda_len: usize,
+        delta: *const u8,
+        delta_len: usize,
+        level: u8,
+        marks: *mut u8,
+        marks_len: usize,
+    ) -> ZgRefusal;
+
+    pub fn zg_read(
+        n: u8,
+        darts: u16,
+        h: u8,
+        rows: *const u16,
+        rows_len: usize,
+        lambda: *const u8,
+        lambda_len: usize,
+        delta: *const u8,
+        delta_len: usize,
+        level: u8,
+        involution: u8,
+        dart: u16,
+    ) -> ZgReading;
+
+    pub fn zg_read_by_levels(
+        n: u8,
+        darts: u16,
+        h: u8,
+        rows: *const u16,
+        rows_len: usize,
+        lambda: *const u8,
+        lambda_len: usize,
+        delta: *const u8,
+        delta_len: usize,
+        level: u8,
+        involution: u8,
+        dart: u16,
+    ) -> ZgReading;
+
+    pub fn zg_unfold(
+        n: u8,
+        darts: u16,
+        h: u8,
+        rows: *const u16,
+        rows_len: usize,
+        lambda: *const u8,
+        lambda_len: usize,
+        delta: *const u8,
+        delta_len: usize,
+        level: u8,
+        table: *mut u16,
+        table_len: usize,
+    ) -> ZgCount;
+
+    pub fn zg_row(
+        n: u8,
+        darts: u16,
+        h: u8,
+        base: *const u16,
+        base_len: usize,
+        unfolded: *const u16,
+        unfolded_len: usize,
+        level: u8,
+        involution: u8,
+    ) -> ZgPart;
+
+    pub fn zg_survivors(
+        darts: u16,
+        h: u8,
+        lambda: *const u8,
+        lambda_len: usize,
+        level: u8,
+        words: *mut u64,
+        words_len: usize,
+    ) -> ZgCount;
+
+    pub fn zg_mark(
+        n: u8,
+        darts: u16,
+        table: *const u16,
+        table_len: usize,
+        dimension: u8,
+        marks: *mut u8,
+        marks_len: usize,
+    ) -> ZgRefusal;
+
+    pub fn zg_take(
+        bytes: *const u8,
+        bytes_len: usize,
+        rows: *mut u16,
+        rows_len: usize,
+        lambda: *mut u8,
+        lambda_len: usize,
+        delta: *mut u8,
+        delta_len: usize,
+    ) -> ZgRecord;
+}

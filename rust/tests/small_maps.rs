@@ -1,0 +1,307 @@
+//! The scope document's small maps, read through the binding.
+use zompelgors::{
+    add, check_base, mark, row, survivors, Dimension, Level, Pyramid, Reading, Refusal, NONE, STAY,
+    WORDS,
+};
+
+const SQUARE: [u16; 16] = [1, 0, 3, 2, 5, 4, 7, 6, 7, 2, 1, 4, 3, 6, 5, 0];
+
+const STAR: [u16; 36] = [
+    6, 7, 8, 9, 10, 11, 0, 1, 2, 3, 4, 5, //
+    5, 2, 1, 4, 3, 0, 7, 6, 9, 8, 11, 10, //
+    1, 0, 3, 2, 5, 4, 7, 6, 9, 8, 11, 10,
+];
+
+fn refused(number: u16, level: u16, involution: u16, dart: u16) -> Refusal {
+    Refusal {
+        number,
+        level,
+        involution,
+        dart,
+    }
+}
+
+fn reading(neighbour: u16, count: u32) -> Result<Reading, Refusal> {
+    Ok(Reading { neighbour, count })
+}
+
+/// A map with the marks of its levels added one after the other.
+struct Grown {
+    n: Dimension,
+    darts: u16,
+    h: Level,
+    rows: Vec<u16>,
+    lambda: Vec<u8>,
+    delta: Vec<u8>,
+    table: Vec<u16>,
+}
+
+impl Grown {
+    fn new(n: u8, rows: &[u16]) -> Grown {
+        let darts = rows.len() / (usize::from(n) + 1);
+        Grown {
+            n: Dimension(n),
+            darts: darts as u16,
+            h: Level(0),
+            rows: rows.to_vec(),
+            lambda: vec![0; darts],
+            delta: vec![n; darts],
+            table: vec![0; rows.len()],
+        }
+    }
+
+    fn add(&mut self, dimension: Dimension, removed: &[usize]) -> Result<(), Refusal> {
+        let mut marks = vec![STAY; usize::from(self.darts)];
+        for &dart in removed {
+            marks[dart] = dimension.0;
+        }
+        self.h = add(
+            self.n,
+            self.darts,
+            self.h,
+            &self.rows,
+            &mut self.lambda,
+            &mut self.delta,
+            &marks,
+            &mut self.table,
+        )?;
+        Ok(())
+    }
+
+    fn pyramid(&self) -> Pyramid<'_> {
+        let Grown { n, darts, h, .. } = *self;
+        Pyramid {
+            n,
+            darts,
+            h,
+            rows: &self.rows,
+            lambda: &self.lambda,
+            delta: &self.delta,
+        }
+    }
+
+    fn read(&self, level: u8, involution: u8, dart: u16) -> Result<Reading, Refusal> {
+        let (level, involution) = (Level(level), Dimension(involution));
+        let direct = self.pyramid().read(level, involution, dart);
+        assert_eq!(
+            direct,
+            self.pyramid().read_by_levels(level, involution, dart)
+        );
+        direct
+    }
+
+    fn cost(&self, level: u8) -> Result<u32, Refusal> {
+        self.pyramid()
+            .unfold(Level(level), &mut vec![0; self.rows.len()])
+    }
+}
+
+fn star() -> Grown {
+    let mut star = Grown::new(2, &STAR);
+    star.add(Dimension(1), &[2, 3, 8, 9]).unwrap();
+    star.add(Dimension(0), &[0, 1, 4, 5]).unwrap();
+    star
+}
+
+#[test]
+fn p1_segment() {
+    let pyramid = Pyramid {
+        n: Dimension(1),
+        darts: 2,
+        h: Level(1),
+        rows: &[1, 0, 0, 1],
+        lambda: &[1, 0],
+        delta: &[1, 0],
+    };
+    let mut table = [7; 4];
+    assert_eq!(pyramid.check(&mut table), Ok(()));
+    assert_eq!(table, [0, NONE, 0, NONE]);
+    assert_eq!(pyramid.read(Level(1), Dimension(0), 0), reading(0, 3));
+    assert_eq!(pyramid.unfold(Level(1), &mut table), Ok(4));
+}
+
+#[test]
+fn p3_p4_square() {
+    let mut square = Grown::new(1, &SQUARE);
+    assert_eq!(square.add(Dimension(0), &[1, 2]), Ok(()));
+    assert_eq!(square.read(1, 0, 0), reading(3, 3));
+    assert_eq!(square.read(1, 0, 3), reading(0, 3));
+    assert_eq!(square.cost(1), Ok(16));
+    assert_eq!(square.add(Dimension(0), &[3, 4]), Ok(()));
+    assert_eq!(square.h, Level(2));
+    assert_eq!(
+        (square.lambda[1], square.lambda[3], square.lambda[0]),
+        (0, 1, 2)
+    );
+    assert_eq!(square.read(2, 0, 0), reading(5, 5));
+    assert_eq!(square.cost(2), Ok(16));
+}
+
+#[test]
+fn p5_part_of_a_cell() {
+    let mut square = Grown::new(1, &SQUARE);
+    assert_eq!(square.add(Dimension(0), &[1]), Err(refused(9, 0, 1, 1)));
+    assert_eq!(
+        (square.h, &square.lambda[..], &square.delta[..]),
+        (Level(0), &[0; 8][..], &[1; 8][..])
+    );
+    assert_eq!(square.table, SQUARE);
+}
+
+#[test]
+fn p6_two_edge_sides_by_count() {
+    let rows = [
+        4, 5, 6, 7, 0, 1, 2, 3, 2, 1, 0, 3, 4, 5, 6, 7, 1, 0, 3, 2, 5, 4, 7, 6,
+    ];
+    assert_eq!(check_base(Dimension(2), 8, &rows), Ok(()));
+    let mut map = Grown::new(2, &rows);
+    assert_eq!(
+        map.add(Dimension(0), &[0, 1, 2, 3]),
+        Err(refused(10, 0, 1, 0))
+    );
+}
+
+#[test]
+fn p7_not_commuting() {
+    let rows = [1, 0, 3, 2, 0, 1, 2, 3, 2, 1, 0, 3];
+    assert_eq!(check_base(Dimension(2), 4, &rows), Err(refused(7, 0, 0, 0)));
+}
+
+#[test]
+fn p8_p9_star() {
+    let star = star();
+    assert_eq!(star.read(1, 1, 1).map(|r| r.neighbour), Ok(4));
+    assert_eq!(star.read(1, 1, 4).map(|r| r.neighbour), Ok(1));
+    assert_eq!(star.read(2, 0, 7), reading(10, 5));
+    assert_eq!(star.pyramid().check(&mut [0; 36]), Ok(()));
+}
+
+#[test]
+fn p10_star_vertex() {
+    assert_eq!(
+        Grown::new(2, &STAR).add(Dimension(0), &[0, 1, 2, 3, 4, 5]),
+        Err(refused(10, 0, 1, 0))
+    );
+}
+
+#[test]
+fn unchecked_reading() {
+    let pyramid = Pyramid {
+        n: Dimension(1),
+        darts: 2,
+        h: Level(1),
+        rows: &[1, 1, 0, 1],
+        lambda: &[1, 0],
+        delta: &[1, 0],
+    };
+    assert_eq!(
+        pyramid.read(Level(1), Dimension(0), 0),
+        Err(refused(15, 1, 0, 0))
+    );
+}
+
+#[test]
+fn star_levels() {
+    let star = star();
+    let mut words = [1; WORDS];
+    for (level, total, bits) in [(0, 36, 0xfff), (1, 28, 0xcf3), (2, 24, 0xcc0u64)] {
+        assert_eq!(star.cost(level), Ok(total));
+        assert_eq!(
+            star.pyramid().survivors(Level(level), &mut words),
+            Ok(bits.count_ones())
+        );
+        assert_eq!((words[0], &words[1..]), (bits, &[0; 63][..]));
+    }
+}
+
+#[test]
+fn star_marks_read_back() {
+    let star = star();
+    let mut marks = [0; 12];
+    assert_eq!(star.pyramid().marks(Level(1), &mut marks), Ok(()));
+    assert_eq!(
+        marks,
+        [0, 0, STAY, STAY, 0, 0, STAY, STAY, STAY, STAY, STAY, STAY]
+    );
+    assert_eq!(star.pyramid().marks(Level(2), &mut marks), Ok(()));
+    assert_eq!(marks, [STAY; 12]);
+    assert_eq!(
+        star.pyramid().marks(Level(3), &mut marks),
+        Err(refused(11, 3, 0, 0))
+    );
+}
+
+#[test]
+fn star_cells_marked() {
+    let mut marks = [0; 12];
+    assert_eq!(
+        mark(Dimension(2), 12, &STAR, Dimension(1), &mut marks),
+        Ok(())
+    );
+    assert_eq!(marks, [1; 12]);
+    assert_eq!(
+        mark(Dimension(2), 12, &STAR, Dimension(2), &mut marks),
+        Err(refused(13, 0, 2, 0))
+    );
+}
+
+#[test]
+fn rows_are_parts_of_what_is_lent() {
+    let star = star();
+    let pyramid = star.pyramid();
+    let mut unfolded = [0; 36];
+    pyramid.unfold(Level(1), &mut unfolded).unwrap();
+    let first = pyramid.row(&unfolded, Level(0), Dimension(1)).unwrap();
+    assert!(std::ptr::eq(first, &star.rows[12..24]));
+    let second = pyramid.row(&unfolded, Level(1), Dimension(2)).unwrap();
+    assert!(std::ptr::eq(second, &unfolded[24..36]));
+    assert_eq!(
+        pyramid.row(&unfolded, Level(1), Dimension(3)),
+        Err(refused(13, 1, 3, 0))
+    );
+    assert_eq!(
+        pyramid.row(&unfolded[1..], Level(0), Dimension(1)),
+        Err(refused(4, 0, 0, 0))
+    );
+    assert_eq!(
+        row(
+            Dimension(2),
+            12,
+            Level(2),
+            &STAR,
+            &[],
+            Level(0),
+            Dimension(1)
+        ),
+        Err(refused(4, 0, 0, 0))
+    );
+}
+
+#[test]
+fn a_level_added_at_31_and_32() {
+    for (h, outcome) in [(31, Ok(Level(32))), (32, Err(refused(20, 0, 0, 0)))] {
+        let (mut lambda, mut delta, mut table) = ([h; 2], [1; 2], [0; 4]);
+        let added = add(
+            Dimension(1),
+            2,
+            Level(h),
+            &[1, 0, 0, 1],
+            &mut lambda,
+            &mut delta,
+            &[STAY; 2],
+            &mut table,
+        );
+        assert_eq!(added, outcome);
+        assert_eq!(lambda, [32; 2]);
+    }
+}
+
+#[test]
+fn empty_slices_are_refused() {
+    assert_eq!(check_base(Dimension(2), 12, &[]), Err(refused(4, 0, 0, 0)));
+    assert_eq!(check_base(Dimension(5), 12, &[]), Err(refused(1, 0, 0, 0)));
+    assert_eq!(
+        survivors(12, Level(0), &[], Level(0), &mut []),
+        Err(refused(4, 0, 0, 0))
+    );
+}
