@@ -1,20 +1,20 @@
 -- Where the rows of a table lie, where 5, 6 and 7 are first refused, and what a 5 that is not refused tells of the entries. Assumes nothing.
-use mathlib.Core.Path.{_≡_, sym, _∙_}
+use mathlib.Core.Path.{_≡_, sym, subst, _∙_}
 use mathlib.Core.Bool.{Bool, true, false, _&&_}
 use mathlib.Core.List.{List}
 use Prim.Native.Nat.{ℕ, suc, _+_, _*_, _≤_, _<_, zero-le}
 use native.Mathlib.Nat.{mul-le-mul-right}
 use native.Mathlib.Omega.{arith}
-use lib.ListN.{length}
+use lib.ListN.{length, getD}
 use lib.Dec.{ltb}
-use borrow.Author.Tests.{ltb-true, le-ltb, not-false}
+use borrow.Author.Tests.{ltb-true, lt-ltb, le-ltb, not-false}
 use Rattle.maps.specs.Verdict.{Verdict, accepted, refused, when, scan}
 use Rattle.maps.specs.Sizes.{sizes}
 use Rattle.maps.specs.Table.{entry}
 use Rattle.maps.specs.Check.{at5, at7, check5, check7}
 use Rattle.facts.proofs.Verdicts.{when-accepted, scan-accepted, scan-all, scan-first, and-both, and-false}
 use Rattle.facts.proofs.Sizes.{sizes-sized}
-use Rattle.facts.proofs.Tables.{next-row, table-size}
+use Rattle.facts.proofs.Tables.{next-row, table-size, in-table}
 use Rattle.bases.specs.InTable.{Row, Rows, presentIf, straysIn, notCommutingIn, check5In, check7In}
 
 -- accepted sizes: the exact length is small, and the code's n + 1 is the definition's
@@ -50,6 +50,13 @@ module _ (number N : ℕ) (row : ℕ → ℕ) (test : ℕ → ℕ → Bool) wher
   rows-first m x d lx ld rows darts t =
       scan-first m (λ x. scan N (place x)) x number 0 (row x) d lx (rows-none x rows)
       (scan-first N (place x) d number 0 (row x) d ld (scan-all d (place x) (λ e l. rw (darts e l))) (rw t))
+
+-- where every entry of a base is a dart, 5 is not refused
+pub base-none : (explicit : Bool) (n N : ℕ) (table : List ℕ) → explicit ≡ false → length table ≡ suc n * N → ((k : ℕ) → k < length table → getD table k 0 < N) → check5In explicit n N table ≡ accepted
+unfolding at5 check5
+base-none explicit n N table base long h =
+    rows-none 5 N (λ x. x) (straysIn explicit N table) (suc n) (λ i li d ld.
+    rw (base, lt-ltb (entry N table i d) N (h (i * N + d) (subst (λ m. i * N + d < m) (sym long) (in-table n N i d (omega arith) ld)))))
 
 module _ (explicit : Bool) (n N : ℕ) (table : List ℕ) where
   -- pairs with j < i+2 are never refused

@@ -5,7 +5,8 @@ use answers::Level;
 use answers::Refusal;
 ghost use mathlib.Core.Path.{_≡_};
 ghost use mathlib.Core.Bool.{true};
-ghost use Prim.Native.Nat.{_+_, _<_};
+ghost use Prim.Native.Nat.{ℕ, _+_, _<_, _≤_};
+ghost use lib.ListN.{length, getD};
 ghost use Rattle.maps.specs.Verdict.{accepted};
 ghost use Rattle.maps.specs.Table.{entry};
 ghost use Rattle.maps.specs.CheckBase.{checkBase, checkExplicit};
@@ -95,6 +96,33 @@ fn number5(explicit: bool, table: &[u16], n: Dim, darts: u16) -> Place
     found
 }
 
+// A number that no entry is above. The loop has no exit, so that the compiler may take many entries at once.
+fn largest(table: &[u16]) -> u16
+    ensures { λ r. ⌜ ((k : ℕ) → k < length (now (table .entry)) → getD (now (table .entry)) k 0 ≤ r) ⌝ }
+{
+    let mut most: u16 = 0;
+    for k in 0..table.len() {
+        let e = table[k];
+        if most < e {
+            most = e;
+        }
+    }
+    most
+}
+
+// Number 5; the place is sought in a base only if there is one.
+fn first_stray(explicit: bool, table: &[u16], n: Dim, darts: u16) -> Place
+    requires { ⌜ Rows (n .0) darts (now table) ⌝ }
+    ensures { λ r. ⌜ refusedAt 5 r ≡ check5In explicit (n .0) darts (now (table .entry)) ⌝ }
+{
+    if !explicit {
+        if largest(table) < darts {
+            return Place::Nowhere;
+        }
+    }
+    number5(explicit, table, n, darts)
+}
+
 // Number 6, sought over rows, then darts; 5 is not refused, so that each entry of a dart present is a dart.
 fn number6(explicit: bool, table: &[u16], n: Dim, darts: u16) -> Place
     requires { ⌜ Rows (n .0) darts (now table) × (check5In explicit (n .0) darts (now table) ≡ accepted) ⌝ }
@@ -136,7 +164,7 @@ fn map_refused(explicit: bool, table: &[u16], n: Dim, darts: u16) -> Check
     requires { ⌜ Rows (n .0) darts (now table) ⌝ }
     ensures { λ r. ⌜ verdictOf r ≡ checkMapIn explicit (n .0) darts (now (table .entry)) ⌝ }
 {
-    if let Place::At(i, d) = number5(explicit, table, n, darts) {
+    if let Place::At(i, d) = first_stray(explicit, table, n, darts) {
         return Check::Refused(Refusal::Strays(Level(0), i, d));
     }
     if let Place::At(i, d) = number6(explicit, table, n, darts) {

@@ -10,26 +10,26 @@ use Rattle.bases.proofs.map_refused.Statement.{statement}
 use Rattle.bases.proofs.map_refused.Tie as tie
 use Rattle.bases.proofs.map_refused.Reads as reads
 use Rattle.bases.proofs.map_refused.Lts as lts
-use Rattle.bases.proofs.number5.Reads as number5-reads
+use Rattle.bases.proofs.first_stray.Reads as first-stray-reads
 use Rattle.bases.proofs.number6.Reads as number6-reads
 use Rattle.bases.proofs.number7.Reads as number7-reads
 
 -- past the test of 5, 5 is not refused; past that of 6, 6 is not
 five : (c : tie.After-enum-told) → let a = c .before .before .before .before .args in check5In (a .explicit) (a .n .0) (a .darts) (now (a .table)) ≡ accepted
-five c = sym (c .before .before .number5 .ensures) ∙ ap (refusedAt 5) (c .enum-told .given .1)
+five c = sym (c .before .before .first-stray .ensures) ∙ ap (refusedAt 5) (c .enum-told .given .1)
 
 six : (c : tie.After-enum-told2) → let a = c .before .before .before .before .before .before .before .args in check6In (a .explicit) (a .n .0) (a .darts) (now (a .table)) ≡ accepted
 six c = sym (c .before .before .number6 .ensures) ∙ ap (refusedAt 6) (c .enum-told2 .given .1)
 
-number5-requires : tie.Need-number5-requires
-number5-requires c κs = search needs
+first-stray-requires : tie.Need-first-stray-requires
+first-stray-requires c κs = search needs
 
 enum-known-i : tie.Need-enum-known-i
 enum-known-i c = search needs
 
 returns : tie.Need-returns
 unfolding checkMap
-returns c = rw (sym (c .before .before .before .number5 .ensures) ∙ ap (refusedAt 5) (c .before .i .given .1))
+returns c = rw (sym (c .before .before .before .first-stray .ensures) ∙ ap (refusedAt 5) (c .before .i .given .1))
 
 enum-told : tie.Need-enum-told
 enum-told c = search needs
@@ -68,7 +68,7 @@ pub map-refused-spec : {M : Type 1} → statement M
 map-refused-spec =
     tie.close
     (tie.spec
-    number5-requires
+    first-stray-requires
     enum-known-i
     returns
     enum-told
