@@ -75,15 +75,16 @@ fn spoil(
     }
 }
 
-// δ where dart d is present and not in the set, else 255.
+// δ where dart d is present and not in the set, else 255. Both are read in any case, so that the compiler may take many darts at once.
 fn mark_at(darts: u16, table: &[u16], dimension: Dim, reached: bool, d: u16) -> u8
     requires { ⌜ (0 * darts + d < length (now table)) × (length (now table) ≤ 20480) ⌝ }
     ensures { λ r. ⌜ r ≡ markOf darts (now (table .entry)) (dimension .0) reached d ⌝ }
 {
+    let present = there(darts, table, d);
     if reached {
         return 255;
     }
-    if there(darts, table, d) {
+    if present {
         return dimension.0;
     }
     255
