@@ -1,8 +1,16 @@
 // What all jobs share: levels and dimensions, each way to be refused, and the tests of sizes and marks. Assumes nothing.
 ghost use mathlib.Core.Path.{_≡_};
+ghost use mathlib.Core.Bool.{false};
+ghost use mathlib.Core.List.{[]};
+ghost use Prim.Native.Nat.{ℕ, _<_};
+ghost use lib.ListN.{length};
+ghost use Rattle.maps.specs.Verdict.{scan};
 ghost use Rattle.maps.specs.Sizes.{sizes as sizesOf};
+ghost use Rattle.maps.specs.Table.{each};
 ghost use Rattle.maps.specs.Folded.{refusedMarks};
+ghost use Rattle.maps.specs.MarksBack.{atMarks8};
 ghost use Rattle.answers.specs.Numbers.{refusalOf, verdictOf, said};
+ghost use Rattle.answers.specs.Marked.{marksRefusal};
 
 // A level: Λ, h, or a level asked.
 pub struct Level(pub u8);
@@ -73,6 +81,57 @@ pub fn marks_refused(n: Dim, h: Level, lambda: Level, delta: Dim) -> bool
         return n.0 <= delta.0;
     }
     delta.0 != n.0
+}
+
+// Are the marks of any dart refused? No branch for each dart, so that many are tested at once.
+fn any_refused(n: Dim, h: Level, lambda: &[u8], delta: &[u8]) -> bool
+    requires { ⌜ length (now delta) ≡ length (now lambda) ⌝ }
+    ensures { λ r. ⌜ (r ≡ false → (x : ℕ) → x < length (now (lambda .entry)) → refusedMarks (n .0) (h .0) (each (now (lambda .entry)) x) (each (now (delta .entry)) x) ≡ false) ⌝ }
+{
+    let mut any = false;
+    for at in 0..lambda.len() {
+        let refused = marks_refused(n, h, Level(lambda[at]), Dim(delta[at]));
+        any = any | refused;
+    }
+    any
+}
+
+// The first dart whose marks are refused.
+fn first_refused(n: Dim, darts: u16, h: Level, lambda: &[u8], delta: &[u8], level: Level) -> Check
+    requires { ⌜ (length (now lambda) ≡ darts) × (length (now delta) ≡ darts) ⌝ }
+    ensures { λ r. ⌜ verdictOf r ≡ scan darts (atMarks8 (n .0) darts (h .0) (now (lambda .entry)) (now (delta .entry)) (level .0) []) ⌝ }
+{
+    for d in 0..darts {
+        let at = d as usize;
+        if marks_refused(n, h, Level(lambda[at]), Dim(delta[at])) {
+            return Check::Refused(Refusal::Marks(level, Dim(0), d));
+        }
+    }
+    Check::Accepted
+}
+
+// Number 8 over all darts; the dart is sought only if there is one.
+pub fn marks_refusal(
+    n: Dim,
+    darts: u16,
+    h: Level,
+    lambda: &[u8],
+    delta: &[u8],
+    level: Level,
+) -> Check
+    ensures { λ r. ⌜ verdictOf r ≡ marksRefusal (n .0) darts (h .0) (now (lambda .entry)) (now (delta .entry)) (level .0) ⌝ }
+{
+    let width = darts as usize;
+    if lambda.len() != width {
+        return Check::Refused(Refusal::Length);
+    }
+    if delta.len() != width {
+        return Check::Refused(Refusal::Length);
+    }
+    if any_refused(n, h, lambda, delta) {
+        return first_refused(n, darts, h, lambda, delta, level);
+    }
+    Check::Accepted
 }
 
 // A refusal as the document prints it; all four are 0 where accepted.
