@@ -1,5 +1,6 @@
 pub mod Questions
 mod Steps
+mod Going
 mod Entries
 mod Filling
 mod Unfolding

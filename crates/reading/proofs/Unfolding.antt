@@ -16,9 +16,9 @@ use Rattle.answers.specs.Numbers.{refusalOf}
 use Rattle.answers.specs.declared.Refusal.{Refusal}
 use Rattle.answers.proofs.Refusals.{refusal-refuses, refused-then}
 use Rattle.reading.specs.Readings.{sizesLent}
-use Rattle.reading.specs.Totals.{marksLent, walksLent, walksTotal, walksLeave}
+use Rattle.reading.specs.Totals.{walksLent, walksTotal, walksLeave}
 use Rattle.reading.proofs.Questions.{then-assoc}
-use Rattle.reading.proofs.Entries.{spoils}
+use Rattle.reading.specs.Filling.{spoils}
 
 -- refusals that leave the table as it was
 then-keeps : (u v : Verdict) → spoils u ≡ false → spoils v ≡ false → spoils (u then v) ≡ false
@@ -51,11 +51,14 @@ module _ (n N h : ℕ) (rows lambda delta : List ℕ) (l : ℕ) (table : List �
   abbrev exact : Verdict
   exact = number4 (hasLength table (suc n * N))
 
+  abbrev marks : Verdict
+  marks = scan N (atMarks8 n N h lambda delta l [])
+
   abbrev marks-and-walks : Verdict
-  marks-and-walks = marksLent n N h lambda delta l then walksLent n N h rows lambda delta l table
+  marks-and-walks = marks then walksLent n N h rows lambda delta l table
 
   unfold-is : lent then (exact then (number11 h l 0 0 then marks-and-walks)) ≡ answer
-  unfolding sizesLent marksLent walksLent unfoldLent atMarks8
+  unfolding sizesLent walksLent unfoldLent atMarks8
   unfold-is =
       let r = hasLength rows (suc n * N) in
       let s = hasLength lambda N in
@@ -72,8 +75,8 @@ module _ (n N h : ℕ) (rows lambda delta : List ℕ) (l : ℕ) (table : List �
       (when-keeps (not (leb 1 n && leb n 4)) 1 0 0 0 refl) (then-keeps (number2 N) (number3 h) (when-keeps (not (leb 1 N && leb N 4096)) 2 0 0 0 refl) (when-keeps (ltb 32 h) 3 0 0 0 refl)))
       (when-keeps (not (hasLength rows (suc n * N) && (hasLength lambda N && hasLength delta N))) 4 0 0 0 refl)
 
-  marks-keep : spoils (marksLent n N h lambda delta l) ≡ false
-  unfolding marksLent atMarks8
+  marks-keep : spoils marks ≡ false
+  unfolding atMarks8
   marks-keep = scan-keeps N (atMarks8 n N h lambda delta l []) (λ x. when-keeps (refusedMarks n h (each lambda x) (each delta x)) 8 l 0 x refl)
 
   -- what the contract asks after a refusal that leaves the table as it was
@@ -110,11 +113,11 @@ module _ (n N h : ℕ) (rows lambda delta : List ℕ) (l : ℕ) (table : List �
         unfolding number4 number11
         after-level = rw (eq-eqb (length table) (suc n * N) fits, le-ltb h l low) at after-lent
 
-        pub unfold-marks : (r : Refusal) → refusalOf r ≡ marksLent n N h lambda delta l → Kept (refusalOf r)
-        unfold-marks r e = kept-refusal r (ap spoils e ∙ marks-keep) (refused-then r (marksLent n N h lambda delta l) (walksLent n N h rows lambda delta l table) e ∙ after-level)
+        pub unfold-marks : (r : Refusal) → refusalOf r ≡ marks → Kept (refusalOf r)
+        unfold-marks r e = kept-refusal r (ap spoils e ∙ marks-keep) (refused-then r marks (walksLent n N h rows lambda delta l table) e ∙ after-level)
 
         -- after accepted marks the walks decide
-        pub unfold-walks : {v : Verdict} {total : ℕ} {after : List ℕ} → marksLent n N h lambda delta l ≡ accepted
+        pub unfold-walks : {v : Verdict} {total : ℕ} {after : List ℕ} → marks ≡ accepted
             → (v ≡ walksLent n N h rows lambda delta l table) × ((total ≡ walksTotal n N h rows lambda delta l table) × (after ≡ walksLeave n N h rows lambda delta l table))
             → (v ≡ answer) × ((total ≡ unfoldTotal n N h rows lambda delta l table) × (after ≡ unfoldLeaves n N h rows lambda delta l table))
         unfolding walksTotal walksLeave unfoldTotal unfoldLeaves

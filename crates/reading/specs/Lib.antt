@@ -1,2 +1,3 @@
 pub mod Readings
 pub mod Totals
+pub mod Filling

@@ -6,14 +6,14 @@ use answers::Refusal;
 ghost use mathlib.Core.Path.{_≡_};
 ghost use Prim.Native.Nat.{suc, _*_, _≤_, _<_};
 ghost use lib.ListN.{length};
-ghost use Rattle.maps.specs.Verdict.{accepted};
 ghost use Rattle.maps.specs.Read.{question as questionOf, readLent, readingOf};
 ghost use Rattle.maps.specs.Table.{entry, each, listed, absent};
 ghost use Rattle.maps.specs.Walk.{walk as walkOf};
 ghost use Rattle.maps.specs.Unfold.{unfoldLent, unfoldTotal, unfoldLeaves};
 ghost use Rattle.answers.specs.Numbers.{verdictOf};
 ghost use Rattle.reading.specs.Readings.{valueOf, sizesLent, Lent};
-ghost use Rattle.reading.specs.Totals.{checkOf, totalOf, levelEntry, marksLent, walksLent, walksTotal, walksLeave};
+ghost use Rattle.reading.specs.Totals.{checkOf, totalOf, walksLent, walksTotal, walksLeave};
+ghost use Rattle.reading.specs.Filling.{Allowed, Meets, restOf, RowsTo};
 
 // A neighbour with the number of base entries read, or a refusal.
 pub enum Reading {
@@ -151,39 +151,59 @@ pub fn read(
     }
 }
 
-// The entry of a dart in the table of a level, and the reads that it takes: none for a dart that is not on the level.
-fn level_entry(
+// How a walk that met a dart not on the level goes on: it ends at a dart after so many reads more, or is refused 15, 5 or 14, with row and dart.
+enum Rest {
+    Ended(usize, usize),
+    Long,
+    Strays(Dim, u16),
+    NoPass(Dim, u16),
+}
+
+// The walk of a dart goes on from the dart met by its first read. All marks are allowed, so 8 is not tested again.
+fn onward(
     n: Dim,
-    darts: u16,
+    width: usize,
     h: Level,
     rows: &[u16],
     lambda: &[u8],
     delta: &[u8],
     level: Level,
     involution: Dim,
-    dart: u16,
-) -> Reading
-    requires { ⌜ Lent (n .0) darts (h .0) (now rows) (now lambda) (now delta) (level .0) × (involution .0 ≤ n .0) × (dart < darts) ⌝ }
-    ensures { λ r. ⌜ valueOf r ≡ levelEntry (n .0) darts (h .0) (now (rows .entry)) (now (lambda .entry)) (now (delta .entry)) (level .0) (involution .0) dart ⌝ }
+    dart: usize,
+    met: usize,
+) -> Rest
+    requires { ⌜ Allowed (n .0) width (h .0) (now rows) (now lambda) (now delta) (level .0) × Meets width (now rows) (now lambda) (level .0) (n .0) (involution .0) dart met ⌝ }
+    ensures { λ r. ⌜ restOf (level .0) (involution .0) dart r ≡ readingOf (level .0) (walkOf (entry width (now (rows .entry))) (n .0) width (h .0) (each (now (lambda .entry))) (each (now (delta .entry))) (level .0) (involution .0) dart) ⌝ }
 {
-    if lambda[dart as usize] < level.0 {
-        return Reading::Found(65535, 0);
-    }
-    walk(n, darts, h, rows, lambda, delta, level, involution, dart)
-}
-
-// Number 8 over all darts.
-fn marks_lent(n: Dim, darts: u16, h: Level, lambda: &[u8], delta: &[u8], level: Level) -> Check
-    requires { ⌜ (length (now lambda) ≡ darts) × (length (now delta) ≡ darts) ⌝ }
-    ensures { λ r. ⌜ verdictOf r ≡ marksLent (n .0) darts (h .0) (now (lambda .entry)) (now (delta .entry)) (level .0) ⌝ }
-{
-    for d in 0..darts {
-        let at = d as usize;
-        if answers::marks_refused(n, h, Level(lambda[at]), Dim(delta[at])) {
-            return Check::Refused(Refusal::Marks(level, Dim(0), d));
+    let most = 2 * width;
+    let mut t = involution.0;
+    let mut row = t as usize * width;
+    let mut from = met;
+    let mut left = most;
+    loop {
+        let mark = delta[from];
+        if mark == t {
+            t = mark + 1;
+            row += width;
+        } else if mark + 1 == t {
+            t = mark;
+            row -= width;
+        } else {
+            return Rest::NoPass(Dim(t), from as u16);
         }
+        if left == 0 {
+            return Rest::Long;
+        }
+        left -= 1;
+        let e = rows[row + from] as usize;
+        if width <= e {
+            return Rest::Strays(Dim(t), from as u16);
+        }
+        if level.0 <= lambda[e] {
+            return Rest::Ended(e, most - left);
+        }
+        from = e;
     }
-    Check::Accepted
 }
 
 // 65,535 throughout.
@@ -195,7 +215,60 @@ fn clear(table: &mut [u16])
     }
 }
 
-// The walks of a level, by involution, then dart, into the table; left at the first refusal.
+// The walks of rows 0 to last, each by dart, into the table, with their count: the rows before first; left at the first refusal.
+// It calls itself, so that its loop stays a function of its own and has the registers to itself.
+fn rows_to(
+    n: Dim,
+    width: usize,
+    h: Level,
+    rows: &[u16],
+    lambda: &[u8],
+    delta: &[u8],
+    level: Level,
+    last: Dim,
+    table: &mut [u16],
+) -> Total
+    requires { ⌜ Allowed (n .0) width (h .0) (now rows) (now lambda) (now delta) (level .0) × (length (now table) ≡ suc (n .0) * width) × (last .0 ≤ n .0) ⌝ }
+    ensures { λ r. ⌜ RowsTo (n .0) width (h .0) (now (rows .entry)) (now (lambda .entry)) (now (delta .entry)) (level .0) (last .0) r (now (table .exit)) ⌝ }
+{
+    let i = last.0;
+    let mut total: u32 = 0;
+    if 0 < i {
+        match rows_to(n, width, h, rows, lambda, delta, level, Dim(i - 1), table) {
+            Total::Counted(count) => total = count,
+            Total::Refused(r) => return Total::Refused(r),
+        }
+    }
+    let start = i as usize * width;
+    for d in 0..width {
+        let place = start + d;
+        if lambda[d] < level.0 {
+            table[place] = 65535;
+        } else {
+            let e = rows[place] as usize;
+            if width <= e {
+                return Total::Refused(Refusal::Strays(level, last, d as u16));
+            }
+            total += 1;
+            if level.0 <= lambda[e] {
+                table[place] = e as u16;
+            } else {
+                match onward(n, width, h, rows, lambda, delta, level, last, d, e) {
+                    Rest::Ended(f, more) => {
+                        table[place] = f as u16;
+                        total += more as u32;
+                    },
+                    Rest::Long => return Total::Refused(Refusal::TooLong(level, last, d as u16)),
+                    Rest::Strays(t, b) => return Total::Refused(Refusal::Strays(level, t, b)),
+                    Rest::NoPass(t, b) => return Total::Refused(Refusal::NoPass(level, t, b)),
+                }
+            }
+        }
+    }
+    Total::Counted(total)
+}
+
+// The walks of a level, by involution, then dart, into the table; after a refusal the table is 65,535 throughout.
 fn walks(
     n: Dim,
     darts: u16,
@@ -206,32 +279,18 @@ fn walks(
     level: Level,
     table: &mut [u16],
 ) -> Total
-    requires { ⌜ Lent (n .0) darts (h .0) (now rows) (now lambda) (now delta) (level .0) × (length (now table) ≡ suc (n .0) * darts) × (marksLent (n .0) darts (h .0) (now lambda) (now delta) (level .0) ≡ accepted) ⌝ }
+    requires { ⌜ Allowed (n .0) darts (h .0) (now rows) (now lambda) (now delta) (level .0) × (length (now table) ≡ suc (n .0) * darts) ⌝ }
     ensures { λ r. ⌜ checkOf r ≡ walksLent (n .0) darts (h .0) (now (rows .entry)) (now (lambda .entry)) (now (delta .entry)) (level .0) (now (table .entry)) ⌝ }
     ensures { λ r. ⌜ totalOf r ≡ walksTotal (n .0) darts (h .0) (now (rows .entry)) (now (lambda .entry)) (now (delta .entry)) (level .0) (now (table .entry)) ⌝ }
     ensures { λ _. ⌜ now (table .exit) ≡ walksLeave (n .0) darts (h .0) (now (rows .entry)) (now (lambda .entry)) (now (delta .entry)) (level .0) (now (table .entry)) ⌝ }
 {
-    let width = darts as usize;
-    let end = n.0 + 1;
-    let mut answer = Total::Counted(0);
-    let mut total: u32 = 0;
-    'rows: for i in 0..end {
-        for d in 0..darts {
-            match level_entry(n, darts, h, rows, lambda, delta, level, Dim(i), d) {
-                Reading::Found(e, count) => {
-                    table[i as usize * width + d as usize] = e;
-                    total += count;
-                },
-                Reading::Refused(r) => {
-                    clear(table);
-                    answer = Total::Refused(r);
-                    break 'rows;
-                },
-            }
-        }
-        answer = Total::Counted(total);
+    match rows_to(n, darts as usize, h, rows, lambda, delta, level, n, table) {
+        Total::Counted(total) => Total::Counted(total),
+        Total::Refused(r) => {
+            clear(table);
+            Total::Refused(r)
+        },
     }
-    answer
 }
 
 // A whole level into the lent table by direct walks, with the total count.
@@ -258,7 +317,7 @@ pub fn unfold(
     if h.0 < level.0 {
         return Total::Refused(Refusal::NoLevel(level, Dim(0), 0));
     }
-    if let Check::Refused(r) = marks_lent(n, darts, h, lambda, delta, level) {
+    if let Check::Refused(r) = answers::marks_refusal(n, darts, h, lambda, delta, level) {
         return Total::Refused(r);
     }
     walks(n, darts, h, rows, lambda, delta, level, table)
