@@ -7,6 +7,7 @@ use Rattle.reading.specs.Readings.{valueOf}
 use Rattle.records.specs.Answers.{takenOf}
 use Rattle.answers.proofs.sizes.Reads as sizes
 use Rattle.answers.proofs.marks_refused.Reads as marks-refused
+use Rattle.answers.proofs.marks_refusal.Reads as marks-refusal
 use Rattle.answers.proofs.numbers_of.Reads as numbers-of
 use Rattle.bases.proofs.check_base.Reads as check-base
 use Rattle.bases.proofs.check_explicit.Reads as check-explicit
@@ -87,6 +88,9 @@ sizes-one κs = one-outcome _ _ _ (λ a. verdictOf) checkFrom (λ a. check-told)
 
 pub marks-refused-one : (κs : Lfts 0) → OneOutcome (marks-refused.Learnt κs) (λ r. r) nothing
 marks-refused-one κs = one-outcome _ _ _ (λ a r. r) (λ r. r) (λ a r. refl) _ _ (λ a r s c. (c, refl))
+
+pub marks-refusal-one : (κs : Lfts 2) → OneOutcome (marks-refusal.Learnt κs) (λ r. r) nothing
+marks-refusal-one κs = one-outcome _ _ _ (λ a. verdictOf) checkFrom (λ a. check-told) _ _ (λ a r s c. (c, refl))
 
 pub numbers-of-one : (κs : Lfts 0) → OneOutcome (numbers-of.Learnt κs) (λ r. r) nothing
 numbers-of-one κs = one-outcome _ _ _ (λ a. said) numbersFrom (λ a. numbers-told) _ _ (λ a r s c. (c, refl))
