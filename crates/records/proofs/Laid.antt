@@ -60,26 +60,41 @@ laid-more value at d v slice l e =
           λ n. s ∙ by-place value at d slice x (λ y. y ≡ getD slice x 0) (λ f g. absurd (n f (omega arith))) (λ k. refl),
         )
 
--- m values after the first `at`
-pub laid-after : (part value : ℕ → ℕ) (at m : ℕ) (slice : List ℕ) → ((d : ℕ) → d < m → part d ≡ value (at + d)) → laid part at m (laid value 0 at slice) ≡ laid value 0 (at + m) slice
-laid-after part value at m slice same =
-    laid-of value 0 (at + m) slice (laid part at m (laid value 0 at slice)) (length-laid part at m (laid value 0 at slice) ∙ length-laid value 0 at slice) (λ x l.
-    let s : getD (laid part at m (laid value 0 at slice)) x 0 ≡ laidAt part at m (laid value 0 at slice) x = getD-laid part at m (laid value 0 at slice) x (omega (arith, length-laid value 0 at slice)) in
-    let t : getD (laid value 0 at slice) x 0 ≡ laidAt value 0 at slice x = getD-laid value 0 at slice x l in (
-      λ p q. s ∙ by-place part at m (laid value 0 at slice) x (λ y. y ≡ value (x - 0))
-          (λ f g. let z : at + (x - at) ≡ x - 0 = omega arith in same (x - at) (omega arith) ∙ ap value z)
-          (λ n. t ∙ by-place value 0 at slice x (λ y. y ≡ value (x - 0)) (λ f g. refl) (λ k. absurd (go x p q n k))),
-      λ n. s ∙ by-place part at m (laid value 0 at slice) x (λ y. y ≡ getD slice x 0)
+-- the same values
+pub laid-same : (f g : ℕ → ℕ) (at m : ℕ) (slice : List ℕ) → ((d : ℕ) → d < m → f d ≡ g d) → laid f at m slice ≡ laid g at m slice
+laid-same f g at m slice same =
+    laid-of g at m slice (laid f at m slice) (length-laid f at m slice) (λ x l.
+    let s : getD (laid f at m slice) x 0 ≡ laidAt f at m slice x = getD-laid f at m slice x l in (
+      λ p q. s ∙ by-place f at m slice x (λ y. y ≡ g (x - at)) (λ k j. same (x - at) (omega arith)) (λ n. absurd (n p q)),
+      λ n. s ∙ by-place f at m slice x (λ y. y ≡ getD slice x 0) (λ p q. absurd (n p q)) (λ k. refl),
+    ))
+
+-- m values after `at` others
+pub laid-on : (part value : ℕ → ℕ) (first at m : ℕ) (slice : List ℕ) → ((d : ℕ) → d < m → part d ≡ value (at + d)) → laid part (first + at) m (laid value first at slice) ≡ laid value first (at + m) slice
+laid-on part value first at m slice same =
+    laid-of value first (at + m) slice (laid part (first + at) m (laid value first at slice)) (length-laid part (first + at) m (laid value first at slice) ∙ length-laid value first at slice) (λ x l.
+    let s : getD (laid part (first + at) m (laid value first at slice)) x 0 ≡ laidAt part (first + at) m (laid value first at slice) x = getD-laid part (first + at) m (laid value first at slice) x (omega (arith, length-laid value first at slice)) in
+    let t : getD (laid value first at slice) x 0 ≡ laidAt value first at slice x = getD-laid value first at slice x l in (
+      λ p q. s ∙ by-place part (first + at) m (laid value first at slice) x (λ y. y ≡ value (x - first))
+          (λ f g. let z : at + (x - (first + at)) ≡ x - first = omega arith in same (x - (first + at)) (omega arith) ∙ ap value z)
+          (λ n. t ∙ by-place value first at slice x (λ y. y ≡ value (x - first)) (λ f g. refl) (λ k. absurd (go x p q n k))),
+      λ n. s ∙ by-place part (first + at) m (laid value first at slice) x (λ y. y ≡ getD slice x 0)
           (λ f g. absurd (n (omega arith) (omega arith)))
-          (λ k. t ∙ by-place value 0 at slice x (λ y. y ≡ getD slice x 0) (λ f g. absurd (n f (omega arith))) (λ j. refl)),
+          (λ k. t ∙ by-place value first at slice x (λ y. y ≡ getD slice x 0) (λ f g. absurd (n f (omega arith))) (λ j. refl)),
     ))
   where
-    go : (x : ℕ) → 0 ≤ x → x < 0 + (at + m) → (at ≤ x → x < at + m → ⊥) → (0 ≤ x → x < 0 + at → ⊥) → ⊥
-    go x p q n k = side (ltb x at) refl
+    go : (x : ℕ) → first ≤ x → x < first + (at + m) → (first + at ≤ x → x < first + at + m → ⊥) → (first ≤ x → x < first + at → ⊥) → ⊥
+    go x p q n k = side (ltb x (first + at)) refl
       where
-        side : (b : Bool) → ltb x at ≡ b → ⊥
-        side true e = let l = ltb-true x at e in k p (omega arith)
-        side false e = let l = ltb-false x at e in n l (omega arith)
+        side : (b : Bool) → ltb x (first + at) ≡ b → ⊥
+        side true e = let l = ltb-true x (first + at) e in k p (omega arith)
+        side false e = let l = ltb-false x (first + at) e in n l (omega arith)
+
+-- at the front
+pub laid-after : (part value : ℕ → ℕ) (at m : ℕ) (slice : List ℕ) → ((d : ℕ) → d < m → part d ≡ value (at + d)) → laid part at m (laid value 0 at slice) ≡ laid value 0 (at + m) slice
+laid-after part value at m slice same =
+    let z : at ≡ 0 + at = omega arith in
+    ap (λ (x : ℕ). laid part x m (laid value 0 at slice)) z ∙ laid-on part value 0 at m slice same
 
 -- at the front: what a longer slice has after that is untouched
 pub laid-front : (value : ℕ → ℕ) (m : ℕ) (slice : List ℕ) → laid value 0 m slice ≡ listed (λ x. cond (ltb x m) (value x) (getD slice x 0)) (length slice)

@@ -1,5 +1,6 @@
 mod Settled
 mod Laid
+mod Parted
 mod Tagged
 mod Placed
 mod Whole

@@ -1,8 +1,13 @@
 // Take a record: tagged fields, in their order, into lent tables. Assumes nothing: any bytes at all are answered.
+mod copying; // copying.rt: a field's body into a lent slice
+
 use answers::Check;
 use answers::Dim;
 use answers::Level;
 use answers::Refusal;
+use copying::copy_bytes;
+use copying::copy_narrow;
+use copying::copy_wide;
 ghost use mathlib.Core.Path.{_≡_};
 ghost use mathlib.Core.Bool.{_&&_};
 ghost use Prim.Native.Nat.{suc, _+_, _*_, _≤_};
@@ -13,7 +18,7 @@ ghost use Rattle.maps.specs.Record.{field as fieldOf, recordDimension, recordHe
 ghost use Rattle.answers.specs.Numbers.{verdictOf};
 ghost use Rattle.records.specs.Answers.{takenOf, saying, taken};
 ghost use Rattle.records.specs.Kinds.{kindOf};
-ghost use Rattle.records.specs.Parts.{headerOf, sizeOf, tagOf, marksAt, rowField, fieldsOf, roomOf, restOf, byteFrom, twoFrom, entryFrom, tableEntry, laid};
+ghost use Rattle.records.specs.Parts.{headerOf, sizeOf, tagOf, marksAt, rowField, fieldsOf, roomOf, restOf, byteFrom, entryFrom, tableEntry, laid};
 
 // The answer: n, h and N, or why the record is refused.
 pub enum Taken {
@@ -212,37 +217,6 @@ fn room(length: usize, end: u16, enough: bool) -> Check
         return Check::Refused(Refusal::Length);
     }
     Check::Accepted
-}
-
-// A body of bytes, copied to the front of a slice.
-fn copy_bytes(bytes: &[u8], from: usize, count: usize, to: &mut [u8])
-    requires { ⌜ (from + count ≤ length (now bytes)) × (count ≤ length (now to)) ⌝ }
-    ensures { λ _. ⌜ now (to .exit) ≡ laid (byteFrom (now (bytes .entry)) from) 0 count (now (to .entry)) ⌝ }
-{
-    for d in 0..count {
-        to[d] = bytes[from + d];
-    }
-}
-
-// A row of one byte an entry.
-fn copy_narrow(bytes: &[u8], from: usize, count: usize, to: &mut [u16], at: usize)
-    requires { ⌜ (from + count ≤ length (now bytes)) × (at + count ≤ length (now to)) ⌝ }
-    ensures { λ _. ⌜ now (to .exit) ≡ laid (byteFrom (now (bytes .entry)) from) at count (now (to .entry)) ⌝ }
-{
-    for d in 0..count {
-        to[at + d] = wide(bytes[from + d]);
-    }
-}
-
-// A row of two bytes an entry.
-fn copy_wide(bytes: &[u8], from: usize, count: usize, to: &mut [u16], at: usize)
-    requires { ⌜ (from + 2 * count ≤ length (now bytes)) × (at + count ≤ length (now to)) ⌝ }
-    ensures { λ _. ⌜ now (to .exit) ≡ laid (twoFrom (now (bytes .entry)) from) at count (now (to .entry)) ⌝ }
-{
-    for d in 0..count {
-        let low = from + 2 * d;
-        to[at + d] = two_bytes(bytes[low], bytes[low + 1]);
-    }
 }
 
 // A row of either kind.

@@ -1,7 +1,7 @@
 // Survivor words of a level, and the number of ones in them. Assumes nothing.
 ghost use mathlib.Core.Path.{_≡_};
 ghost use mathlib.Core.List.{[]};
-ghost use Prim.Native.Nat.{_<_, _≤_};
+ghost use Prim.Native.Nat.{ℕ, _<_, _≤_};
 ghost use lib.ListN.{length};
 ghost use Rattle.maps.specs.Verdict.{scan};
 ghost use Rattle.maps.specs.Folded.{survivors as survivorsOf};
@@ -17,8 +17,32 @@ use answers::Dim;
 use answers::Level;
 use answers::Refusal;
 
+// A number that no Λ is above: the largest, found without a way out of the loop, so that it is found many darts at a time.
+fn largest(lambda: &[u8]) -> u8
+    ensures { λ r. ⌜ ((d : ℕ) → d < length (now (lambda .entry)) → each (now (lambda .entry)) d ≤ r) ⌝ }
+{
+    let mut most: u8 = 0;
+    for d in 0..lambda.len() {
+        if most < lambda[d] {
+            most = lambda[d];
+        }
+    }
+    most
+}
+
 // Number 8 of Λ alone, over all darts, with the level asked.
 fn lambda_tested(darts: u16, h: Level, lambda: &[u8], level: Level) -> Check
+    requires { ⌜ length (now lambda) ≡ darts ⌝ }
+    ensures { λ r. ⌜ verdictOf r ≡ scan darts (atLambda8 darts (h .0) (now (lambda .entry)) (level .0) []) ⌝ }
+{
+    if largest(lambda) <= h.0 {
+        return Check::Accepted;
+    }
+    first_above(darts, h, lambda, level)
+}
+
+// The first dart that number 8 of Λ alone names.
+fn first_above(darts: u16, h: Level, lambda: &[u8], level: Level) -> Check
     requires { ⌜ length (now lambda) ≡ darts ⌝ }
     ensures { λ r. ⌜ verdictOf r ≡ scan darts (atLambda8 darts (h .0) (now (lambda .entry)) (level .0) []) ⌝ }
 {

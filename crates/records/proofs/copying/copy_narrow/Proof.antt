@@ -1,4 +1,4 @@
--- `records::copy_narrow` meets its contract: the values written so far are laid, the rest is untouched. Assumes nothing.
+-- `records::copying::copy_narrow` meets its contract: the values written so far are laid, the rest is untouched. Assumes nothing.
 use mathlib.Core.Path.{_≡_, ap, _∙_}
 use Prim.Native.Nat.{ℕ, _+_, _-_, _≤_, zero-le}
 use native.Mathlib.Omega.{arith}
@@ -7,8 +7,8 @@ use denote.Ref.{now}
 use borrow.Author.Needs.{needs}
 use Rattle.records.specs.Parts.{byteFrom, laid}
 use Rattle.records.proofs.Laid.{laid-none, laid-more, length-laid}
-use Rattle.records.proofs.copy_narrow.Statement.{statement}
-use Rattle.records.proofs.copy_narrow.Tie as tie
+use Rattle.records.proofs.copying.copy_narrow.Statement.{statement}
+use Rattle.records.proofs.copying.copy_narrow.Tie as tie
 
 abbrev Inv-loop : tie.InvT-loop
 Inv-loop bytes from count to₀ at d₀ to d = (d ≤ count) × (to ≡ laid (byteFrom bytes from) at d to₀)

@@ -1,4 +1,4 @@
--- `records::copy_wide` meets its contract: the values written so far are laid, the rest is untouched. Assumes nothing.
+-- `records::copying::copy_few_entries` meets its contract: the values written so far are laid, the rest is untouched. Assumes nothing.
 use mathlib.Core.Path.{_≡_, ap, _∙_}
 use Prim.Native.Nat.{ℕ, _+_, _-_, _≤_, zero-le}
 use native.Mathlib.Omega.{arith}
@@ -7,8 +7,8 @@ use denote.Ref.{now}
 use borrow.Author.Needs.{needs}
 use Rattle.records.specs.Parts.{twoFrom, laid}
 use Rattle.records.proofs.Laid.{laid-none, laid-more, length-laid}
-use Rattle.records.proofs.copy_wide.Statement.{statement}
-use Rattle.records.proofs.copy_wide.Tie as tie
+use Rattle.records.proofs.copying.copy_few_entries.Statement.{statement}
+use Rattle.records.proofs.copying.copy_few_entries.Tie as tie
 
 abbrev Inv-loop : tie.InvT-loop
 Inv-loop bytes from count to₀ at d₀ to d = (d ≤ count) × (to ≡ laid (twoFrom bytes from) at d to₀)
@@ -77,8 +77,8 @@ returns c =
     let e : l .d ≡ a .count = omega arith in
     l .inv .1 ∙ ap (λ (x : ℕ). laid (twoFrom (now (a .bytes)) (a .from)) (a .at) x (now (a .to))) e
 
-pub copy-wide-spec : {M : Type 1} → statement M
-copy-wide-spec =
+pub copy-few-entries-spec : {M : Type 1} → statement M
+copy-few-entries-spec =
     tie.close
     (tie.spec
     Inv-loop
