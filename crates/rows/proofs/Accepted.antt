@@ -20,7 +20,7 @@ use Rattle.answers.specs.Numbers.{refusalOf}
 use Rattle.answers.specs.declared.Refusal.{Refusal}
 use Rattle.answers.proofs.Refusals.{refusal-refuses, refused-then}
 use Rattle.facts.proofs.Sizes.{Sized, sizes-sized}
-use Rattle.rows.specs.Answers.{askedOf}
+use Rattle.rows.specs.Parts.{askedOf}
 
 -- the same tests in the same order
 asked-then : (u v w x : Verdict) → u then (v then (w then x)) ≡ (u then (v then w)) then x

@@ -17,7 +17,7 @@ use Rattle.maps.specs.Folded.{survives, survivors}
 use Rattle.maps.specs.Table.{each}
 use Rattle.maps.specs.Survivors.{bit, word}
 use Rattle.facts.proofs.Counting.{count-add, count-same, sum-same}
-use Rattle.rows.specs.Answers.{inWord}
+use Rattle.rows.specs.Parts.{inWord}
 
 -- digit b is set where the test holds of b
 abbrev pub digit : (ℕ → Bool) → ℕ → ℕ

@@ -3,14 +3,14 @@ ghost use mathlib.Core.Path.{_≡_};
 ghost use mathlib.Core.Bool.{_&&_};
 ghost use lib.Dec.{eqb};
 ghost use Rattle.answers.specs.Numbers.{verdictOf};
-ghost use Rattle.rows.specs.Answers.{askedOf};
+ghost use Rattle.rows.specs.Parts.{askedOf};
 use answers::Check;
 use answers::Dim;
 use answers::Level;
 use answers::Refusal;
 
 // Have two slices the lengths they are to have?
-pub fn exact(first: usize, due: usize, second: usize, other: usize) -> bool
+pub(crate) fn exact(first: usize, due: usize, second: usize, other: usize) -> bool
     ensures { λ r. ⌜ r ≡ (eqb first due && eqb second other) ⌝ }
 {
     if first != due {
@@ -20,7 +20,14 @@ pub fn exact(first: usize, due: usize, second: usize, other: usize) -> bool
 }
 
 // Numbers 1, 2, 3, 4 and 11.
-pub fn asked(n: Dim, darts: u16, h: Level, fits: bool, level: Level, involution: Dim) -> Check
+pub(crate) fn asked(
+    n: Dim,
+    darts: u16,
+    h: Level,
+    fits: bool,
+    level: Level,
+    involution: Dim,
+) -> Check
     ensures { λ r. ⌜ verdictOf r ≡ askedOf (n .0) darts (h .0) fits (level .0) (involution .0) ⌝ }
 {
     match answers::sizes(n, darts, h) {

@@ -1,21 +1,18 @@
 // The mark row of a level, read back out of Λ and Δ into a lent row. Assumes nothing.
 ghost use mathlib.Core.Path.{_≡_};
 ghost use mathlib.Core.Bool.{cond, _&&_};
-ghost use mathlib.Core.List.{[]};
 ghost use lib.ListN.{length};
 ghost use lib.Dec.{eqb, ltb};
-ghost use Rattle.maps.specs.Verdict.{scan};
 ghost use Rattle.maps.specs.Mark.{stay};
 ghost use Rattle.maps.specs.Folded.{marks};
 ghost use Rattle.maps.specs.Table.{each, listed};
-ghost use Rattle.maps.specs.MarksBack.{atMarks8, marksLent, marksLeaves};
+ghost use Rattle.maps.specs.MarksBack.{marksLent, marksLeaves};
 ghost use Rattle.answers.specs.Numbers.{verdictOf};
 use super::asked::asked;
 use super::asked::exact;
 use answers::Check;
 use answers::Dim;
 use answers::Level;
-use answers::Refusal;
 
 // Have all three slices the length of one number for each dart?
 fn exact_rows(darts: u16, lambda: usize, delta: usize, out: usize) -> bool
@@ -26,20 +23,6 @@ fn exact_rows(darts: u16, lambda: usize, delta: usize, out: usize) -> bool
         return false;
     }
     exact(delta, due, out, due)
-}
-
-// Number 8, over all darts, with the level asked.
-fn marks_tested(n: Dim, darts: u16, h: Level, lambda: &[u8], delta: &[u8], level: Level) -> Check
-    requires { ⌜ (length (now lambda) ≡ darts) × (length (now delta) ≡ darts) ⌝ }
-    ensures { λ r. ⌜ verdictOf r ≡ scan darts (atMarks8 (n .0) darts (h .0) (now (lambda .entry)) (now (delta .entry)) (level .0) []) ⌝ }
-{
-    for d in 0..darts {
-        let at = d as usize;
-        if answers::marks_refused(n, h, Level(lambda[at]), Dim(delta[at])) {
-            return Check::Refused(Refusal::Marks(level, Dim(0), d));
-        }
-    }
-    Check::Accepted
 }
 
 // Δ where Λ is that level, else 255; for level h 255.
@@ -83,7 +66,7 @@ pub fn marks_of(
         Check::Refused(r) => return Check::Refused(r),
         Check::Accepted => {},
     }
-    match marks_tested(n, darts, h, lambda, delta, level) {
+    match answers::marks_refusal(n, darts, h, lambda, delta, level) {
         Check::Refused(r) => return Check::Refused(r),
         Check::Accepted => {},
     }

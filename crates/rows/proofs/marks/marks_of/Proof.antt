@@ -10,7 +10,9 @@ use Rattle.maps.specs.Sizes.{hasLength}
 use Rattle.maps.specs.Folded.{marks}
 use Rattle.maps.specs.MarksBack.{atMarks8, marksLent, marksLeaves}
 use Rattle.answers.specs.Numbers.{verdictOf}
-use Rattle.rows.specs.Answers.{askedOf}
+use Rattle.answers.specs.Marked.{marksRefusal}
+use Rattle.answers.proofs.Marked.{marks-decide}
+use Rattle.rows.specs.Parts.{askedOf}
 use Rattle.rows.proofs.Accepted.{asked-accepted, both-equal, marks-lent, refused-first, refused-second, accepted-both, refusal-keeps}
 use Rattle.facts.proofs.Verdicts.{and-both}
 use borrow.Author.Tests.{eqb-true}
@@ -41,6 +43,10 @@ lengths c =
     let q = both-equal (length (now (a .delta))) (a .darts) (length (now (a .out))) (a .darts) (p .1) in
     (eqb-true (length (now (a .lambda))) (a .darts) (p .0), q .0, q .1)
 
+-- the lengths are right, so the marks decide
+decided : (c : tie.After-enum-told) → let a = c .before .before .before .before .before .before .before .args in marksRefusal (a .n .0) (a .darts) (a .h .0) (now (a .lambda)) (now (a .delta)) (a .level .0) ≡ scanned (c .before .before)
+decided c = let a = c .before .before .before .before .before .before .before .args in let r = lengths c in marks-decide (a .n .0) (a .darts) (a .h .0) (now (a .lambda)) (now (a .delta)) (a .level .0) (r .0) (r .1)
+
 exact-rows-requires : tie.Need-exact-rows-requires
 exact-rows-requires c κs = search needs
 
@@ -61,8 +67,8 @@ returns c =
 enum-told : tie.Need-enum-told
 enum-told c = search needs
 
-marks-tested-requires : tie.Need-marks-tested-requires
-marks-tested-requires c κs = let r = lengths c in (r .0, r .1)
+marks-refusal-requires : tie.Need-marks-refusal-requires
+marks-refusal-requires c κs = search needs
 
 enum-known-r-2 : tie.Need-enum-known-r-2
 enum-known-r-2 c = search needs
@@ -73,7 +79,7 @@ returns-2 c =
     let a = c .before .before .before .before .before .before .before .before .before .before .before .args in
     let m = c .before .before .before in
     let s = m .before .before .before in
-    let e = refused-second (lent s) (asked-of s) (scanned s) (tests s) (c .before .r2 .given .0 .0) (ap verdictOf (sym (m .before .enum-told .given .1)) ∙ s .asked .ensures) (ap verdictOf (sym (c .before .r2 .given .1)) ∙ m .marks-tested .ensures) in
+    let e = refused-second (lent s) (asked-of s) (scanned s) (tests s) (c .before .r2 .given .0 .0) (ap verdictOf (sym (m .before .enum-told .given .1)) ∙ s .asked .ensures) (ap verdictOf (sym (c .before .r2 .given .1)) ∙ m .marks-refusal .ensures ∙ decided (m .before)) in
     (e, refusal-keeps (c .before .r2 .given .0 .0) (lent s) (listed (marks (a .h .0) (each (now (a .lambda))) (each (now (a .delta))) (a .level .0)) (a .darts)) (now (a .out)) e)
 
 enum-told-2 : tie.Need-enum-told-2
@@ -91,7 +97,7 @@ returns-3 c =
     let a = c .before .before .before .before .before .before .before .before .before .before .before .before .before .before .args in
     let m = c .before .before .before .before .before .before in
     let s = m .before .before .before in
-    let e = accepted-both (lent s) (asked-of s) (scanned s) (tests s) (ap verdictOf (sym (m .before .enum-told .given .1)) ∙ s .asked .ensures) (ap verdictOf (sym (c .before .before .before .before .enum-told2 .given .1)) ∙ m .marks-tested .ensures) in
+    let e = accepted-both (lent s) (asked-of s) (scanned s) (tests s) (ap verdictOf (sym (m .before .enum-told .given .1)) ∙ s .asked .ensures) (ap verdictOf (sym (c .before .before .before .before .enum-told2 .given .1)) ∙ m .marks-refusal .ensures ∙ decided (m .before)) in
     let f = marks (a .h .0) (each (now (a .lambda))) (each (now (a .delta))) (a .level .0) in
     (e, rw (← e) (c .before .before .fill-marks .ensures ∙ ap (listed f) (lengths (m .before) .2)))
 
@@ -104,7 +110,7 @@ marks-of-spec =
     enum-known-r
     returns
     enum-told
-    marks-tested-requires
+    marks-refusal-requires
     enum-known-r-2
     returns-2
     enum-told-2

@@ -10,7 +10,7 @@ use Rattle.maps.specs.Sizes.{number13}
 use Rattle.maps.specs.Row.{rowLent}
 use Rattle.answers.specs.declared.Refusal.the-variants.{NoInvolution}
 use Rattle.answers.specs.Numbers.{verdictOf}
-use Rattle.rows.specs.Answers.{askedOf}
+use Rattle.rows.specs.Parts.{askedOf}
 use Rattle.rows.proofs.Accepted.{row-lent, refused-first, refused-second, accepted-both}
 use borrow.Author.Needs.{needs}
 use Rattle.rows.proofs.parts.row_refusal.Statement.{statement}

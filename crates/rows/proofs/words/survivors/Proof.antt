@@ -10,7 +10,7 @@ use Rattle.maps.specs.Table.{each, listed}
 use Rattle.maps.specs.Folded.{survivors}
 use Rattle.maps.specs.Survivors.{atLambda8, word, survivorsLent, survivorWords, survivorCount}
 use Rattle.answers.specs.Numbers.{verdictOf}
-use Rattle.rows.specs.Answers.{askedOf}
+use Rattle.rows.specs.Parts.{askedOf}
 use Rattle.rows.proofs.Accepted.{asked-accepted, both-equal, survivors-lent, refused-first, refused-second, accepted-both, refusal-keeps}
 use borrow.Author.Needs.{needs}
 use Rattle.rows.proofs.words.survivors.Statement.{statement}

@@ -10,7 +10,7 @@ use Rattle.maps.specs.Table.{each}
 use mathlib.Core.Logic.{⊎-elim}
 use Rattle.maps.specs.Count.{sum}
 use Rattle.maps.specs.Survivors.{bit, word}
-use Rattle.rows.specs.Answers.{inWord}
+use Rattle.rows.specs.Parts.{inWord}
 use Rattle.rows.proofs.Ones.{digit, digit-set, digit-left, digits-past, in-word, past-word}
 use borrow.Author.Needs.{needs}
 use Rattle.rows.proofs.words.word.Statement.{statement}
