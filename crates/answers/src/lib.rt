@@ -74,11 +74,11 @@ pub fn sizes(n: Dim, darts: u16, h: Level) -> Check
 pub fn marks_refused(n: Dim, h: Level, lambda: Level, delta: Dim) -> bool
     ensures { λ r. ⌜ r ≡ refusedMarks (n .0) (h .0) (lambda .0) (delta .0) ⌝ }
 {
-    if h.0 < lambda.0 {
-        return true;
-    }
     if lambda.0 < h.0 {
         return n.0 <= delta.0;
+    }
+    if h.0 < lambda.0 {
+        return true;
     }
     delta.0 != n.0
 }

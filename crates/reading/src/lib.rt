@@ -100,33 +100,38 @@ fn walk(
     ensures { λ r. ⌜ valueOf r ≡ readingOf (level .0) (walkOf (entry darts (now (rows .entry))) (n .0) darts (h .0) (each (now (lambda .entry))) (each (now (delta .entry))) (level .0) (involution .0) dart) ⌝ }
 {
     let width = darts as usize;
-    let most = 1 + 2 * darts as u32;
+    let most = 1 + 2 * width;
     let mut t = involution.0;
-    let mut d = dart;
-    let mut count: u32 = 0;
-    while count < most {
-        let e = rows[t as usize * width + d as usize];
-        if darts <= e {
-            return Reading::Refused(Refusal::Strays(level, Dim(t), d));
+    let mut row = t as usize * width;
+    let mut from = dart as usize;
+    let mut left = most;
+    while 0 < left {
+        let e = rows[row + from] as usize;
+        if width <= e {
+            return Reading::Refused(Refusal::Strays(level, Dim(t), from as u16));
         }
-        let at = e as usize;
-        let l = lambda[at];
-        let m = delta[at];
-        if answers::marks_refused(n, h, Level(l), Dim(m)) {
-            return Reading::Refused(Refusal::Marks(level, Dim(t), e));
-        }
-        count += 1;
+        let l = lambda[e];
+        let m = delta[e];
+        left -= 1;
         if level.0 <= l {
-            return Reading::Found(e, count);
+            if answers::marks_refused(n, h, Level(l), Dim(m)) {
+                return Reading::Refused(Refusal::Marks(level, Dim(t), e as u16));
+            }
+            return Reading::Found(e as u16, (most - left) as u32);
+        }
+        if n.0 <= m {
+            return Reading::Refused(Refusal::Marks(level, Dim(t), e as u16));
         }
         if m == t {
-            t = m + 1;
+            t += 1;
+            row += width;
         } else if m + 1 == t {
-            t = m;
+            t -= 1;
+            row -= width;
         } else {
-            return Reading::Refused(Refusal::NoPass(level, Dim(t), e));
+            return Reading::Refused(Refusal::NoPass(level, Dim(t), e as u16));
         }
-        d = e;
+        from = e;
     }
     Reading::Refused(Refusal::TooLong(level, involution, dart))
 }

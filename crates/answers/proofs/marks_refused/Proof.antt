@@ -9,11 +9,11 @@ use Rattle.answers.proofs.marks_refused.Lts as lts
 
 -- src/lib.rt:70:9
 returns : tie.Need-returns
-returns c = simp (lt-ltb _ _ (c .if1 .taken))
+returns c = let a = c .before .before .before .before .before .args in simp (le-ltb (a .h .0) (a .lambda .0) (omega arith), lt-ltb (a .lambda .0) (a .h .0) (omega arith)) (leb-not (a .n .0) (a .delta .0))
 
 -- src/lib.rt:73:9
 returns-2 : tie.Need-returns-2
-returns-2 c = let a = c .before .before .before .before .before .before .before .before .args in simp (le-ltb (a .h .0) (a .lambda .0) (omega arith), lt-ltb (a .lambda .0) (a .h .0) (omega arith)) (leb-not (a .n .0) (a .delta .0))
+returns-2 c = simp (lt-ltb _ _ (c .if2 .taken))
 
 -- src/lib.rt:66:1
 returns-3 : tie.Need-returns-3
