@@ -1,28 +1,15 @@
--- The answer of an add, and the parts of its verdict. Assumes nothing: these are definitions.
+-- The parts of an add's verdict. Assumes nothing: these are definitions.
 use mathlib.Core.Bool.{_&&_}
 use mathlib.Core.List.{List, []}
 use Prim.Native.Nat.{ℕ, suc, _*_}
-use Rattle.maps.specs.Verdict.{Verdict, accepted, _then_, scan}
+use Rattle.maps.specs.Verdict.{Verdict, _then_, scan}
 use Rattle.maps.specs.Sizes.{sizes, number4, hasLength}
 use Rattle.maps.specs.Table.{entry, each}
 use Rattle.maps.specs.Folded.{marks, addΛ, addΔ, level, levelTable}
 use Rattle.maps.specs.Check.{checkKernel}
 use Rattle.maps.specs.CheckPyramid.{leftBehind}
 use Rattle.maps.specs.AddLevel.{atRow8, number20}
-use Rattle.answers.specs.Numbers.{refusalOf}
-use Rattle.checking.specs.declared.pyramid.Added.{Added}
-use Rattle.checking.specs.declared.pyramid.Added.the-variants.{Grown, Refused}
 use Rattle.checking.specs.Climb.{climbs, baseAndMarks}
-
--- the verdict
-abbrev pub addedOf : Added → Verdict
-addedOf (Grown h) = accepted
-addedOf (Refused r) = refusalOf r
-
--- the height afterwards, h where refused
-abbrev pub heightOf : ℕ → Added → ℕ
-heightOf h (Grown new) = new .0
-heightOf h (Refused r) = h
 
 -- 1 2 3 4 20
 abbrev pub addSizes : ℕ → ℕ → ℕ → List ℕ → List ℕ → List ℕ → List ℕ → List ℕ → Verdict

@@ -1,3 +1,4 @@
+pub mod Answers
 pub mod Ready
 pub mod Climb
 pub mod Added

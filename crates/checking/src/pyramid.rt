@@ -23,7 +23,8 @@ ghost use Rattle.facts.proofs.Adding.{Row};
 ghost use Rattle.answers.specs.Numbers.{verdictOf};
 ghost use Rattle.checking.specs.Ready.{Tested};
 ghost use Rattle.checking.specs.Climb.{lentSizes, baseSizes, stepLeaves, Base, climbs, climbLeaves, baseAndMarks};
-ghost use Rattle.checking.specs.Added.{addedOf, heightOf, addSizes, rowMarks, addMarks, ascends, ascendLeaves};
+ghost use Rattle.checking.specs.Added.{addSizes, rowMarks, addMarks, ascends, ascendLeaves};
+ghost use Rattle.checking.specs.Answers.{addedOf, heightOf};
 
 // Numbers 1 to 4 of base rows, marks and a table.
 fn lent(

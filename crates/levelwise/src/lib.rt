@@ -9,7 +9,8 @@ ghost use Prim.Native.Nat.{_≤_, _<_};
 ghost use lib.ListN.{length};
 ghost use Rattle.maps.specs.Read.{readingOf, readLentByLevels};
 ghost use Rattle.maps.specs.Table.{each};
-ghost use Rattle.reading.specs.Readings.{valueOf, Lent};
+ghost use Rattle.reading.specs.Readings.{Lent};
+ghost use Rattle.reading.specs.Answers.{valueOf};
 ghost use Rattle.levelwise.specs.Reached.{walkedOf, Reads, inKernel};
 
 // How a reading ends: by the row read last, at a dart, with the base entries read so far; or refused 15, 5, 8 or 14, with row and dart.

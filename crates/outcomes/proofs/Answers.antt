@@ -13,8 +13,7 @@ use Rattle.answers.specs.declared.Refusal.the-variants.{Dimension, Darts, Heigh
 use Rattle.answers.specs.declared.Numbers.{Numbers}
 use Rattle.answers.specs.declared.Check.{Check}
 use Rattle.answers.specs.declared.Check.the-variants.{Accepted, Refused}
-use Rattle.reading.specs.Readings.{valueOf}
-use Rattle.reading.specs.Totals.{checkOf, totalOf}
+use Rattle.reading.specs.Answers.{valueOf, checkOf, totalOf}
 use Rattle.reading.specs.declared.Reading.{Reading}
 use Rattle.reading.specs.declared.Reading.the-variants.{Found, Refused as Unread}
 use Rattle.reading.specs.declared.Total.{Total}
@@ -22,7 +21,7 @@ use Rattle.reading.specs.declared.Total.the-variants.{Counted, Refused as Uncou
 use Rattle.rows.specs.Answers.{verdictOfSurvivors, countOfSurvivors}
 use Rattle.rows.specs.declared.counted.Survivors.{Survivors}
 use Rattle.rows.specs.declared.counted.Survivors.the-variants.{Counted as Ones, Refused as NoWords}
-use Rattle.checking.specs.Added.{addedOf, heightOf}
+use Rattle.checking.specs.Answers.{addedOf, heightOf}
 use Rattle.checking.specs.declared.pyramid.Added.{Added}
 use Rattle.checking.specs.declared.pyramid.Added.the-variants.{Grown, Refused as NotAdded}
 use Rattle.records.specs.Answers.{Outcome, saying, takenOf}

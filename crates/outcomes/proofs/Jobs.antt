@@ -3,7 +3,7 @@ use mathlib.Core.Path.{refl, ap, ap₂, sym, _∙_}
 use contract.Lifetimes.{Lfts}
 use denote.Ref.{now}
 use Rattle.answers.specs.Numbers.{verdictOf, said}
-use Rattle.reading.specs.Readings.{valueOf}
+use Rattle.reading.specs.Answers.{valueOf}
 use Rattle.records.specs.Answers.{takenOf}
 use Rattle.answers.proofs.sizes.Reads as sizes
 use Rattle.answers.proofs.marks_refused.Reads as marks-refused

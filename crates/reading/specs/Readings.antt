@@ -1,4 +1,4 @@
--- The document's values for each answer of a reading, and what a walk is lent. Assumes nothing: these are definitions.
+-- What a walk is lent. Assumes nothing: these are definitions.
 use mathlib.Core.Path.{_≡_}
 use mathlib.Core.Bool.{_&&_}
 use mathlib.Core.List.{List}
@@ -6,15 +6,6 @@ use Prim.Native.Nat.{ℕ, suc, _*_, _≤_}
 use lib.ListN.{length}
 use Rattle.maps.specs.Verdict.{Verdict, _then_}
 use Rattle.maps.specs.Sizes.{sizes, number4, hasLength}
-use Rattle.maps.specs.Read.{Reading as Value, found, none, unless}
-use Rattle.answers.specs.Numbers.{refusalOf}
-use Rattle.reading.specs.declared.Reading.{Reading}
-use Rattle.reading.specs.declared.Reading.the-variants.{Found, Refused}
-
--- neighbour and count, or number, level, involution and dart (the second value of `unless` is never given: a Refusal always refuses)
-abbrev pub valueOf : Reading → Value
-valueOf (Found neighbour count) = found neighbour count
-valueOf (Refused r) = unless (refusalOf r) (none 0 0 0 0)
 
 -- 1 2 3 4 of base rows and marks
 unfoldable pub sizesLent : ℕ → ℕ → ℕ → List ℕ → List ℕ → List ℕ → Verdict

@@ -1,24 +1,11 @@
--- The document's values for each answer of an unfolding, and the parts of an unfolding. Assumes nothing: these are definitions.
+-- The walks of an unfolding. Assumes nothing: these are definitions.
 use mathlib.Core.List.{List}
 use Prim.Native.Nat.{ℕ, suc}
-use Rattle.maps.specs.Verdict.{Verdict, accepted, ifAccepted, scan}
+use Rattle.maps.specs.Verdict.{Verdict, ifAccepted, scan}
 use Rattle.maps.specs.Table.{entry, each, explicit}
 use Rattle.maps.specs.Folded.{survives}
 use Rattle.maps.specs.Cost.{cost}
 use Rattle.maps.specs.Unfold.{dartOf, walkAt, atWalk, unfolded}
-use Rattle.answers.specs.Numbers.{refusalOf}
-use Rattle.reading.specs.declared.Total.{Total}
-use Rattle.reading.specs.declared.Total.the-variants.{Counted, Refused}
-
--- number, level, involution and dart of an answer
-abbrev pub checkOf : Total → Verdict
-checkOf (Counted total) = accepted
-checkOf (Refused r) = refusalOf r
-
--- counts are 0 in a refusal
-abbrev pub totalOf : Total → ℕ
-totalOf (Counted total) = total
-totalOf (Refused r) = 0
 
 -- the walks of an unfolding, by involution, then dart: their first refusal, their count, and what they leave in the table
 module _ (n N h : ℕ) (rows lambda delta : List ℕ) (l : ℕ) (table : List ℕ) where

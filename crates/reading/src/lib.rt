@@ -11,8 +11,9 @@ ghost use Rattle.maps.specs.Table.{entry, each, listed, absent};
 ghost use Rattle.maps.specs.Walk.{walk as walkOf};
 ghost use Rattle.maps.specs.Unfold.{unfoldLent, unfoldTotal, unfoldLeaves};
 ghost use Rattle.answers.specs.Numbers.{verdictOf};
-ghost use Rattle.reading.specs.Readings.{valueOf, sizesLent, Lent};
-ghost use Rattle.reading.specs.Totals.{checkOf, totalOf, walksLent, walksTotal, walksLeave};
+ghost use Rattle.reading.specs.Readings.{sizesLent, Lent};
+ghost use Rattle.reading.specs.Answers.{valueOf, checkOf, totalOf};
+ghost use Rattle.reading.specs.Totals.{walksLent, walksTotal, walksLeave};
 ghost use Rattle.reading.specs.Filling.{Allowed, Meets, restOf, RowsTo};
 
 // A neighbour with the number of base entries read, or a refusal.

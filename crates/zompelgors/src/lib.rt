@@ -19,9 +19,8 @@ ghost use Rattle.maps.specs.Survivors.{survivorsLent, survivorCount, survivorWo
 ghost use Rattle.maps.specs.MarkCells.{markLent, MarkLeaves};
 ghost use Rattle.maps.specs.Record.{recordDimension, recordHeight, recordDarts, takeLent, takeRows, takeLambda, takeDelta};
 ghost use Rattle.answers.specs.Numbers.{refusalOf, verdictOf};
-ghost use Rattle.checking.specs.Added.{addedOf, heightOf};
-ghost use Rattle.reading.specs.Readings.{valueOf};
-ghost use Rattle.reading.specs.Totals.{checkOf, totalOf};
+ghost use Rattle.checking.specs.Answers.{addedOf, heightOf};
+ghost use Rattle.reading.specs.Answers.{valueOf, checkOf, totalOf};
 ghost use Rattle.rows.specs.Answers.{verdictOfSurvivors, countOfSurvivors};
 ghost use Rattle.records.specs.Answers.{takenOf};
 ghost use Rattle.zompelgors.specs.Flat.{refusalFor, readingFor, countFor, heightFor, partFor, recordFor};

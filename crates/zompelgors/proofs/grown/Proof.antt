@@ -1,6 +1,6 @@
 -- `grown` meets its contract. Assumes nothing.
 use mathlib.Core.Path.{sym, ap, _∙_}
-use Rattle.checking.specs.Added.{addedOf, heightOf}
+use Rattle.checking.specs.Answers.{addedOf, heightOf}
 use Rattle.zompelgors.specs.Flat.{heightFor}
 use borrow.Author.Needs.{needs}
 use Rattle.zompelgors.proofs.grown.Statement.{statement}

@@ -1,7 +1,7 @@
 -- `read_as` meets its contract. Assumes nothing.
 use mathlib.Core.Path.{sym, ap, _∙_}
 use Rattle.maps.specs.Read.{none, unless}
-use Rattle.reading.specs.Readings.{valueOf}
+use Rattle.reading.specs.Answers.{valueOf}
 use Rattle.zompelgors.specs.Flat.{readingFor}
 use borrow.Author.Needs.{needs}
 use Rattle.zompelgors.proofs.read_as.Statement.{statement}

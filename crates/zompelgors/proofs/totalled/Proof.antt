@@ -1,6 +1,6 @@
 -- `totalled` meets its contract. Assumes nothing.
 use mathlib.Core.Path.{sym, ap, _∙_}
-use Rattle.reading.specs.Totals.{checkOf, totalOf}
+use Rattle.reading.specs.Answers.{checkOf, totalOf}
 use Rattle.zompelgors.specs.Flat.{countFor}
 use borrow.Author.Needs.{needs}
 use Rattle.zompelgors.proofs.totalled.Statement.{statement}
