@@ -4,7 +4,6 @@ use mathlib.Core.Bool.{Bool, true, false, cond, _&&_, true≢false}
 use mathlib.Core.List.{List, []}
 use Prim.Native.Nat.{ℕ, suc, _+_, _*_, _≤_, _<_}
 use native.Mathlib.Numerals.{add-one}
-use native.Mathlib.Omega.{arith}
 use lib.ListN.{length}
 use lib.Dec.{eqb}
 use borrow.Author.Tests.{eqb-true, eq-eqb, ne-eqb, not-false}
@@ -13,7 +12,6 @@ use Rattle.maps.specs.Sizes.{sizes, number4, hasLength}
 use Rattle.maps.specs.Mark.{isMark, stay}
 use Rattle.maps.specs.Table.{entry, each, listed}
 use Rattle.maps.specs.Folded.{marks, addΛ, addΔ, level, levelTable}
-use Rattle.maps.specs.Check.{checkKernel}
 use Rattle.maps.specs.CheckPyramid.{leftBehind}
 use Rattle.maps.specs.AddLevel.{refusedMark, atRow8, number20, addLent, addHeight, addLambda, addDelta, addLeaves}
 use Rattle.facts.proofs.Verdicts.{not-refused, then-accepted, when-accepted, scan-accepted}
@@ -22,9 +20,10 @@ use Rattle.facts.proofs.Adding.{Row}
 use Rattle.answers.specs.Numbers.{refusalOf}
 use Rattle.answers.specs.declared.Refusal.{Refusal}
 use Rattle.answers.proofs.Refusals.{refusal-refuses, refused-then}
-use Rattle.checking.specs.Climb.{lentSizes, climbs, baseAndMarks}
+use Rattle.checking.specs.Climb.{lentSizes, baseAndMarks}
 use Rattle.checking.specs.Added.{addSizes, rowMarks, addMarks, newTop, ascends, ascendLeaves}
-use Rattle.checking.proofs.ClimbVerdicts.{Says, Early, Late, says-when, says-then, says-scan, says-more, lengths-early, kernel-late, kernels-late, early-left, late-left, refused-old, then-parts}
+use Rattle.checking.proofs.AddKernels.{ascends-late}
+use Rattle.checking.proofs.ClimbVerdicts.{Says, Early, says-when, says-then, says-scan, lengths-early, early-left, late-left, refused-old, then-parts}
 use Rattle.checking.proofs.ClimbCheck.{Lent, lent-facts, marks-early-all}
 
 -- five lengths are exact: so are the four without the mark row
@@ -120,13 +119,6 @@ module _ (n N h : ℕ) (rows lambda delta row table : List ℕ) where
       says-then (baseAndMarks n N h rows lambda delta) (rowMarks n N h lambda row) (marks-early-all n N h rows lambda delta table)
       (says-scan N (atRow8 n N h [] lambda [] row []) (λ d ld. says-when (refusedMark n N h [] lambda [] row [] d) 8 h 0 d refl))
 
-  ascends-late : Says (Late (λ x. x ≤ h)) (ascends n N h lambda delta row rows)
-  ascends-late =
-      let low = climbs n N h lambda delta rows in
-      let last = checkKernel (level (entry N rows) n N (marks h (each lambda) (each delta)) h) n N (each row) h in
-      says-then low last (says-more (λ k l p. (p .0, omega (arith, p .1))) low (kernels-late (entry N rows) n N h (each lambda) (each delta)))
-      (says-more (λ k l p. (p .0, omega (arith, p .1))) last (kernel-late (level (entry N rows) n N (marks h (each lambda) (each delta)) h) n N (each row) h))
-
   add-parts : addLent n N h rows lambda delta row table ≡ (addSizes n N h rows lambda delta row table then (addMarks n N h rows lambda delta row then ascends n N h lambda delta row rows))
   unfolding addLent atRow8
   add-parts = simp then-parts
@@ -177,7 +169,7 @@ module _ (n N h : ℕ) (rows lambda delta row table : List ℕ) where
       table-left : after ≡ addLeaves n N h rows lambda delta row table
       unfolding addLeaves
       table-left =
-          left ∙ ap (ascendLeaves n N h lambda delta row) same ∙ late-left top tables (λ x. x ≤ h) rows table (ascends n N h lambda delta row rows) ascends-late
+          left ∙ ap (ascendLeaves n N h lambda delta row) same ∙ late-left top tables (λ x. x ≤ h) rows table (ascends n N h lambda delta row rows) (ascends-late n N h lambda delta row rows)
           ∙ ap (leftBehind top tables table) (sym (add-last ∙ ap (ascends n N h lambda delta row) same))
 
       pub ascend-refused : (r : Refusal) → refusalOf r ≡ ascends n N h lambda delta row copied → Leaves (refusalOf r) h lambda delta after

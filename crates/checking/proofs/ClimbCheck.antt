@@ -67,7 +67,7 @@ module _ (n N h : ℕ) (rows lambda delta table : List ℕ) where
   marks-early-all = says-then (checkMap (entry N rows) n N (λ d. true)) (check8 (entry N rows) n N h (each lambda) (each delta)) (map-early (entry N rows) n N (λ d. true)) (marks-early (entry N rows) n N h (each lambda) (each delta))
 
   -- the base is valid and the marks are allowed
-  based : Lent n N h rows lambda delta table → baseAndMarks n N h rows lambda delta ≡ accepted → Base n N h lambda delta rows
+  based : Lent n N h rows lambda delta table → baseAndMarks n N h rows lambda delta ≡ accepted → Base n N h (each lambda) (each delta) rows
   unfolding at8 check8
   based p e =
       let s = then-accepted (checkMap (entry N rows) n N (λ d. true)) (check8 (entry N rows) n N h (each lambda) (each delta)) e in
@@ -75,15 +75,13 @@ module _ (n N h : ℕ) (rows lambda delta table : List ℕ) where
       record {
         dimension = p .dimension;
         darts = p .darts;
-        height = p .height;
-        lambda-long = p .lambda-long;
-        delta-long = p .delta-long;
+        height = let lh = p .height in omega arith;
         long = p .rows-long;
         valid = valid-base (entry N rows) n N h (each lambda) (each delta) (omega arith) (map-sound (entry N rows) n N (λ d. true) (s .0));
         allowed = λ d ld. when-accepted (refusedMarks n h (each lambda d) (each delta d)) 8 0 0 d (scan-accepted N (at8 (entry N rows) n N h (each lambda) (each delta)) (s .1) d ld);
       }
 
-  pub copied-based : {copied : List ℕ} → copied ≡ rows → Lent n N h rows lambda delta table → baseAndMarks n N h rows lambda delta ≡ accepted → Base n N h lambda delta copied
+  pub copied-based : {copied : List ℕ} → copied ≡ rows → Lent n N h rows lambda delta table → baseAndMarks n N h rows lambda delta ≡ accepted → Base n N h (each lambda) (each delta) copied
   copied-based same p e = rw same (based p e)
 
   -- once 1, 2 and 4 have passed, the check of the base is that of its map
@@ -91,7 +89,7 @@ module _ (n N h : ℕ) (rows lambda delta table : List ℕ) where
   unfolding checkBase
   base-map e = sym (then-parts (sizes n N 0) (number4 (hasLength rows (suc n * N))) (checkMap (entry N rows) n N (λ d. true))) ∙ rw e
 
-  check-parts : checkLent n N h rows lambda delta table ≡ (lentSizes n N h rows lambda delta table then (baseAndMarks n N h rows lambda delta then climbs n N h lambda delta rows))
+  check-parts : checkLent n N h rows lambda delta table ≡ (lentSizes n N h rows lambda delta table then (baseAndMarks n N h rows lambda delta then climbs n N h (each lambda) (each delta) rows))
   unfolding checkLent checkPyramid
   check-parts = simp then-parts
 
@@ -100,12 +98,12 @@ module _ (n N h : ℕ) (rows lambda delta table : List ℕ) where
   unfolding checkLeaves
   check-sizes r e =
       let L = lentSizes n N h rows lambda delta table in
-      let W = baseAndMarks n N h rows lambda delta then climbs n N h lambda delta rows in
+      let W = baseAndMarks n N h rows lambda delta then climbs n N h (each lambda) (each delta) rows in
       let T = tableAt n N h rows lambda delta table in
       (refused-then r L W e ∙ sym check-parts, early-left (T h) T table r L W (lengths-early n N h exact) e ∙ ap (leftBehind (T h) T table) (sym check-parts))
 
   module _ (sized : lentSizes n N h rows lambda delta table ≡ accepted) where
-    check-rest : checkLent n N h rows lambda delta table ≡ (baseAndMarks n N h rows lambda delta then climbs n N h lambda delta rows)
+    check-rest : checkLent n N h rows lambda delta table ≡ (baseAndMarks n N h rows lambda delta then climbs n N h (each lambda) (each delta) rows)
     check-rest = check-parts ∙ rw sized
 
     -- refused by 5 to 8: nothing is changed
@@ -113,15 +111,15 @@ module _ (n N h : ℕ) (rows lambda delta table : List ℕ) where
     unfolding checkLeaves
     check-marks r e =
         let B = baseAndMarks n N h rows lambda delta in
-        let W = climbs n N h lambda delta rows in
+        let W = climbs n N h (each lambda) (each delta) rows in
         let T = tableAt n N h rows lambda delta table in
         (refused-then r B W e ∙ sym check-rest, early-left (T h) T table r B W marks-early-all e ∙ ap (leftBehind (T h) T table) (sym check-rest))
 
     -- base and marks are accepted: the kernels of the base that was copied settle it
-    pub check-climbed : baseAndMarks n N h rows lambda delta ≡ accepted → {copied : List ℕ} → copied ≡ rows → (v : Verdict) (after : List ℕ) → v ≡ climbs n N h lambda delta copied → after ≡ climbLeaves n N h lambda delta copied
+    pub check-climbed : baseAndMarks n N h rows lambda delta ≡ accepted → {copied : List ℕ} → copied ≡ rows → (v : Verdict) (after : List ℕ) → v ≡ climbs n N h (each lambda) (each delta) copied → after ≡ climbLeaves n N h (each lambda) (each delta) copied
         → (v ≡ checkLent n N h rows lambda delta table) × (after ≡ checkLeaves n N h rows lambda delta table)
     unfolding checkLeaves
     check-climbed m same v after e left =
         let T = tableAt n N h rows lambda delta table in
-        let last : checkLent n N h rows lambda delta table ≡ climbs n N h lambda delta rows = check-rest ∙ rw m in
-        (e ∙ ap (climbs n N h lambda delta) same ∙ sym last, left ∙ ap (climbLeaves n N h lambda delta) same ∙ late-left (T h) T (λ x. x < h) rows table (climbs n N h lambda delta rows) (kernels-late (entry N rows) n N h (each lambda) (each delta)) ∙ ap (leftBehind (T h) T table) (sym last))
+        let last : checkLent n N h rows lambda delta table ≡ climbs n N h (each lambda) (each delta) rows = check-rest ∙ rw m in
+        (e ∙ ap (climbs n N h (each lambda) (each delta)) same ∙ sym last, left ∙ ap (climbLeaves n N h (each lambda) (each delta)) same ∙ late-left (T h) T (λ x. x < h) rows table (climbs n N h (each lambda) (each delta) rows) (kernels-late (entry N rows) n N h (each lambda) (each delta)) ∙ ap (leftBehind (T h) T table) (sym last))

@@ -1,13 +1,12 @@
 -- Relinking and clearing: what the table holds after each, and that both together are the removal. Assumes nothing.
-use mathlib.Core.Path.{_≡_, refl, sym, ap, _∙_}
-use mathlib.Core.Bool.{Bool, true, false, cond, _&&_, not}
-use mathlib.Core.Logic.{⊎-elim}
+use mathlib.Core.Path.{_≡_, refl, sym, _∙_}
+use mathlib.Core.Bool.{Bool, true, false, cond, not}
 use mathlib.Core.List.{List}
-use Prim.Native.Nat.{ℕ, _+_, _*_, _≤_, _<_}
+use Prim.Native.Nat.{ℕ, _+_, _≤_, _<_}
 use native.Mathlib.Omega.{arith}
-use lib.ListN.{length, set}
-use lib.Dec.{eqb, ltb}
-use borrow.Author.Tests.{lt-ltb, le-ltb, ltb-true, ltb-false, eqb-true, eqb-false}
+use lib.ListN.{length}
+use lib.Dec.{ltb}
+use borrow.Author.Tests.{lt-ltb, le-ltb, ltb-true, ltb-false}
 use Rattle.maps.specs.Mark.{isMark}
 use Rattle.maps.specs.Removal.{goOn, removal}
 use Rattle.maps.specs.Table.{entry, each, absent, explicit}
@@ -15,8 +14,7 @@ use Rattle.maps.specs.CheckBase.{present}
 use Rattle.facts.proofs.Tables.{explicit-of}
 use Rattle.facts.proofs.Agreement.{goOn-local}
 use Rattle.checking.specs.Ready.{Ready, Followed, left, relinked, cleared, TableIs}
-use Rattle.checking.proofs.KernelRows.{RowTo, TableTo, row-kept, row-set}
-use Rattle.checking.proofs.KernelSteps.{go-stays}
+use Rattle.checking.proofs.KernelRows.{TableTo}
 
 -- the entry of a dart that is not marked, below N: it leads on past the marks
 pub relinked-on : (n N : ℕ) (row table : List ℕ) (i d : ℕ) → entry N table i d < N → n ≤ each row d → relinked n N row table i d ≡ goOn (entry N table) n (each row) N i (entry N table i d)
@@ -52,82 +50,6 @@ module _ {n N : ℕ} {row before : List ℕ} (w : Followed n N row before) (afte
   pub go-still : (times i d : ℕ) → i ≤ n → d < N → goOn (entry N after) n (each row) times i d ≡ goOn (entry N before) n (each row) times i d
   go-still times i d li ld =
       sym (goOn-local (entry N before) (entry N after) n (λ d. d < N) (each row) (each row) (w .inside) (w .whole) agree (λ d l. refl) times i d li ld)
-
--- row i relinked below dart d: the entries of the darts marked still stand
-pub row-agrees : {n N i d : ℕ} {before after : List ℕ} (row : List ℕ) → RowTo n N i (relinked n N row before i) d before after → (t k : ℕ) → t ≤ n → k < N → isMark n (each row k) ≡ true → entry N before t k ≡ entry N after t k
-row-agrees {n} {N} {i} {d} {before} {after} row r t k lt lk q = go (eqb t i) refl (ltb k d) refl
-  where
-    go : (x : Bool) → eqb t i ≡ x → (y : Bool) → ltb k d ≡ y → entry N before t k ≡ entry N after t k
-    go false e y f = sym (r .others t k lt lk (eqb-false t i e))
-    go true e false f = let z : t ≡ i = eqb-true t i e in rw z (sym (r .rest k (ltb-false k d f) lk))
-    go true e true f = let z : t ≡ i = eqb-true t i e in rw z (sym (r .done k (ltb-true k d f) lk ∙ relinked-marked n N row before i k (ltb-true (each row k) n q)))
-
--- one dart more, as the code has it: to is where the entry of dart d leads
-module _ {n N i d : ℕ} {row before after : List ℕ} (w : Followed n N row before) (li : i ≤ n) (ld : d < N) (r : RowTo n N i (relinked n N row before i) d before after) where
-  pub relink-followed : Followed n N row after
-  relink-followed = followed-still w after (r .long) (row-agrees row r)
-
-  pub relink-marked : each row d < n → RowTo n N i (relinked n N row before i) (d + 1) before after
-  relink-marked m = row-kept r ld (sym (relinked-marked n N row before i d m))
-
-  module _ {to : ℕ} (is : to ≡ entry N after i d) where
-    here : to ≡ entry N before i d
-    here = is ∙ r .rest d (omega arith) ld
-
-    pub relink-past : N ≤ to → RowTo n N i (relinked n N row before i) (d + 1) before after
-    relink-past l = row-kept r ld (sym (relinked-past n N row before i d (omega (arith, here))))
-
-    pub relink-stays : to < N → n ≤ each row d → (each row to ≡ i → ⊥) → RowTo n N i (relinked n N row before i) (d + 1) before after
-    relink-stays l m ne =
-        let inside : entry N before i d < N = omega (arith, here) in
-        row-kept r ld (sym (relinked-on n N row before i d inside m ∙ go-stays w i (entry N before i d) li inside N (rw here at ne)))
-
-    pub relink-on : to < N → n ≤ each row d → (v : ℕ) → v ≡ goOn (entry N after) n (each row) N i (entry N after i d) → RowTo n N i (relinked n N row before i) (d + 1) before (set after (i * N + d) v)
-    relink-on l m v e =
-        let inside : entry N before i d < N = omega (arith, here) in
-        row-set r (w .shape .long) li ld v (e ∙ ap (goOn (entry N after) n (each row) N i) (r .rest d (omega arith) ld)
-        ∙ go-still w after (r .long) (row-agrees row r) N i (entry N before i d) li inside ∙ sym (relinked-on n N row before i d inside m))
-
--- the rows below i relinked: the entries of the darts marked still stand
-pub table-agrees : {n N i : ℕ} {before after : List ℕ} (row : List ℕ) → TableTo n N (relinked n N row before) i before after → (t k : ℕ) → t ≤ n → k < N → isMark n (each row k) ≡ true → entry N before t k ≡ entry N after t k
-table-agrees {n} {N} {i} {before} {after} row r t k lt lk q = go (ltb t i) refl
-  where
-    go : (x : Bool) → ltb t i ≡ x → entry N before t k ≡ entry N after t k
-    go false f = sym (r .rest t k (ltb-false t i f) lt lk)
-    go true f = sym (r .done t k (ltb-true t i f) lt lk ∙ relinked-marked n N row before t k (ltb-true (each row k) n q))
-
--- so relinking row i now is relinking it in the table at entry
-pub relinked-still : {n N i : ℕ} {row before after : List ℕ} → Followed n N row before → i ≤ n → TableTo n N (relinked n N row before) i before after → (k : ℕ) → k < N → relinked n N row after i k ≡ relinked n N row before i k
-unfolding relinked
-relinked-still {n} {N} {i} {row} {before} {after} w li r k lk = rw (r .rest i k (omega arith) li lk) (go (ltb (entry N before i k) N) refl)
-  where
-    go : (x : Bool) → ltb (entry N before i k) N ≡ x
-        → cond (ltb (entry N before i k) N && not (isMark n (each row k))) (goOn (entry N after) n (each row) N i (entry N before i k)) (entry N before i k) ≡ relinked n N row before i k
-    go true q = rw (go-still w after (r .long) (table-agrees row r) N i (entry N before i k) li (ltb-true (entry N before i k) N q))
-    go false q = rw q
-
--- no dart is marked n, so row n stays
-relinked-last : {n N : ℕ} {row table : List ℕ} → Followed n N row table → (d : ℕ) → d < N → relinked n N row table n d ≡ entry N table n d
-relinked-last {n} {N} {row} {table} w d ld = go (ltb (entry N table n d) N) refl (isMark n (each row d)) refl
-  where
-    go : (x : Bool) → ltb (entry N table n d) N ≡ x → (y : Bool) → isMark n (each row d) ≡ y → relinked n N row table n d ≡ entry N table n d
-    go false f y q = relinked-past n N row table n d (ltb-false (entry N table n d) N f)
-    go true f true q = relinked-marked n N row table n d (ltb-true (each row d) n q)
-    go true f false q =
-        let inside = ltb-true (entry N table n d) N f in
-        let s = w .shape in
-        relinked-on n N row table n d inside (ltb-false (each row d) n q) ∙ go-stays w n (entry N table n d) (omega arith) inside N (λ e.
-        ⊎-elim (λ m. omega (arith, ltb-true (each row (entry N table n d)) n m)) (λ m. omega arith) (w .marks (entry N table n d) inside))
-
-pub relinked-all : {n N i : ℕ} {row before after : List ℕ} → Followed n N row before → TableTo n N (relinked n N row before) i before after → i ≡ n → TableIs n N (relinked n N row before) before after
-relinked-all {n} {N} {i} {row} {before} {after} w r e = record { long = r .long; rows = λ t d lt ld. go t d lt ld (ltb t n) refl }
-  where
-    go : (t d : ℕ) → t ≤ n → d < N → (x : Bool) → ltb t n ≡ x → entry N after t d ≡ relinked n N row before t d
-    go t d lt ld true f = let l = ltb-true t n f in r .done t d (omega arith) lt ld
-    go t d lt ld false f =
-        let l = ltb-false t n f in
-        let z : t ≡ n = omega arith in
-        rw z (r .rest n d (omega arith) (omega arith) ld ∙ sym (relinked-last w d ld))
 
 pub cleared-marked : (n N : ℕ) (row table : List ℕ) (i d : ℕ) → each row d < n → absent ≡ cleared n N row table i d
 unfolding cleared

@@ -14,10 +14,10 @@ use Rattle.facts.proofs.Tables.{in-table}
 use Rattle.checking.specs.Ready.{RowIs, TableIs}
 
 -- the entry of row i and dart d is stored
-entry-set-same : (n N i d v : ℕ) (table : List ℕ) → length table ≡ suc n * N → i ≤ n → d < N → entry N (set table (i * N + d) v) i d ≡ v
+pub entry-set-same : (n N i d v : ℕ) (table : List ℕ) → length table ≡ suc n * N → i ≤ n → d < N → entry N (set table (i * N + d) v) i d ≡ v
 entry-set-same n N i d v table e li ld = getD-set-same table (i * N + d) v 0 (omega (arith, in-table n N i d li ld))
 
-entry-set-other : (N i d t k v : ℕ) (table : List ℕ) → d < N → k < N → (t ≡ i → k ≡ d → ⊥) → entry N (set table (i * N + d) v) t k ≡ entry N table t k
+pub entry-set-other : (N i d t k v : ℕ) (table : List ℕ) → d < N → k < N → (t ≡ i → k ≡ d → ⊥) → entry N (set table (i * N + d) v) t k ≡ entry N table t k
 entry-set-other N i d t k v table ld lk ne = getD-set-other table (i * N + d) (t * N + k) v 0 (λ z.
     ne (sym (digits-div t lk) ∙ ap (λ (x : ℕ). x / N) z ∙ digits-div i ld) (sym (digits-mod t lk) ∙ ap (λ (x : ℕ). x % N) z ∙ digits-mod i ld))
 
@@ -30,18 +30,6 @@ pub record RowTo (n N i : ℕ) (f : ℕ → ℕ) (d : ℕ) (before after : List 
 
 pub row-none : (n N i : ℕ) (f : ℕ → ℕ) (before : List ℕ) → RowTo n N i f 0 before before
 row-none n N i f before = record { long = refl; done = λ k l lk. absurd (omega arith); rest = λ k l lk. refl; others = λ t k lt lk ne. refl }
-
-pub row-kept : {n N i : ℕ} {f : ℕ → ℕ} {d : ℕ} {before after : List ℕ} → RowTo n N i f d before after → d < N → entry N before i d ≡ f d → RowTo n N i f (d + 1) before after
-row-kept {n} {N} {i} {f} {d} {before} {after} r ld e = record {
-  long = r .long;
-  done = λ k l lk. go k l lk (eqb k d) refl;
-  rest = λ k l lk. r .rest k (omega arith) lk;
-  others = r .others;
-}
-  where
-    go : (k : ℕ) → k < d + 1 → k < N → (x : Bool) → eqb k d ≡ x → entry N after i k ≡ f k
-    go k l lk true q = let z : k ≡ d = eqb-true k d q in rw z (r .rest d (omega arith) ld ∙ e)
-    go k l lk false q = let ne : k ≡ d → ⊥ = eqb-false k d q in r .done k (omega arith) lk
 
 pub row-set : {n N i : ℕ} {f : ℕ → ℕ} {d : ℕ} {before after : List ℕ} → RowTo n N i f d before after → length before ≡ suc n * N → i ≤ n → d < N → (v : ℕ) → v ≡ f d → RowTo n N i f (d + 1) before (set after (i * N + d) v)
 row-set {n} {N} {i} {f} {d} {before} {after} r e li ld v is = record {

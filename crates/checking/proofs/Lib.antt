@@ -1,10 +1,14 @@
 mod KernelRows
+mod KernelStrings
+mod KernelTests
 mod KernelSteps
-mod KernelChecks
 mod KernelRemoval
+mod KernelLinks
 mod ClimbMarks
 mod ClimbVerdicts
 mod ClimbSteps
 mod ClimbCheck
+mod ClimbJoint
 mod AddRow
+mod AddKernels
 mod AddCheck

@@ -28,7 +28,7 @@ addMarks n N h rows lambda delta row = baseAndMarks n N h rows lambda delta then
 
 -- 9 10 of the kernels below h, then of the mark row as kernel h, of a table that holds the base
 abbrev pub ascends : ℕ → ℕ → ℕ → List ℕ → List ℕ → List ℕ → List ℕ → Verdict
-ascends n N h lambda delta row table = climbs n N h lambda delta table then checkKernel (level (entry N table) n N (marks h (each lambda) (each delta)) h) n N (each row) h
+ascends n N h lambda delta row table = climbs n N h (each lambda) (each delta) table then checkKernel (level (entry N table) n N (marks h (each lambda) (each delta)) h) n N (each row) h
 
 -- the explicit table of the new top level
 abbrev pub newTop : ℕ → ℕ → ℕ → List ℕ → List ℕ → List ℕ → List ℕ → List ℕ

@@ -2,7 +2,7 @@
 use mathlib.Core.Path.{_≡_}
 use mathlib.Core.Bool.{true, false, _&&_}
 use mathlib.Core.List.{List}
-use Prim.Native.Nat.{ℕ, suc, _*_, _<_, _≤_}
+use Prim.Native.Nat.{ℕ, suc, _+_, _*_, _<_, _≤_}
 use lib.ListN.{length}
 use Rattle.maps.specs.Verdict.{Verdict, ifAccepted, _then_}
 use Rattle.maps.specs.Sizes.{sizes, number4, hasLength}
@@ -26,24 +26,25 @@ baseSizes n N rows = sizes n N 0 then number4 (hasLength rows (suc n * N))
 abbrev pub stepLeaves : ℕ → ℕ → ℕ → List ℕ → List ℕ → List ℕ
 stepLeaves n N l row table = ifAccepted (checkKernel (entry N table) n N (each row) l) (explicit (removal (entry N table) n (each row) N) n N (left n N row table)) table
 
--- base and marks as they are once 1 to 8 have passed
-pub record Base (n N h : ℕ) (lambda delta table : List ℕ) : Type 0 where
+-- Λ and Δ of a dart in one number
+abbrev pub joined : (ℕ → ℕ) → (ℕ → ℕ) → ℕ → ℕ
+joined Λ Δ d = Λ d * 256 + Δ d
+
+-- base and marks as they are once 1 to 8 have passed; a level added may be the 33rd
+pub record Base (n N h : ℕ) (Λ Δ : ℕ → ℕ) (table : List ℕ) : Type 0 where
   pub dimension : n ≤ 4
   pub darts : N ≤ 4096
-  pub height : h ≤ 32
-  pub lambda-long : length lambda ≡ N
-  pub delta-long : length delta ≡ N
+  pub height : h ≤ 33
   pub long : length table ≡ suc n * N
   pub valid : Valid (entry N table) n (λ d. d < N)
-  pub allowed : (d : ℕ) → d < N → refusedMarks n h (each lambda d) (each delta d) ≡ false
+  pub allowed : (d : ℕ) → d < N → refusedMarks n h (Λ d) (Δ d) ≡ false
 
 -- the verdict of all kernels, and what they leave of a table that holds the base
-abbrev pub climbs : ℕ → ℕ → ℕ → List ℕ → List ℕ → List ℕ → Verdict
-climbs n N h lambda delta table = checkKernels (entry N table) n N h (each lambda) (each delta)
+abbrev pub climbs : ℕ → ℕ → ℕ → (ℕ → ℕ) → (ℕ → ℕ) → List ℕ → Verdict
+climbs n N h Λ Δ table = checkKernels (entry N table) n N h Λ Δ
 
-abbrev pub climbLeaves : ℕ → ℕ → ℕ → List ℕ → List ℕ → List ℕ → List ℕ
-climbLeaves n N h lambda delta table =
-    leftBehind (levelTable (entry N table) n N h (each lambda) (each delta) h) (levelTable (entry N table) n N h (each lambda) (each delta)) table (climbs n N h lambda delta table)
+abbrev pub climbLeaves : ℕ → ℕ → ℕ → (ℕ → ℕ) → (ℕ → ℕ) → List ℕ → List ℕ
+climbLeaves n N h Λ Δ table = leftBehind (levelTable (entry N table) n N h Λ Δ h) (levelTable (entry N table) n N h Λ Δ) table (climbs n N h Λ Δ table)
 
 -- 5, 6, 7 of the base and 8 of Λ and Δ
 abbrev pub baseAndMarks : ℕ → ℕ → ℕ → List ℕ → List ℕ → List ℕ → Verdict

@@ -3,19 +3,49 @@ use mathlib.Core.Path.{_≡_}
 use mathlib.Core.Logic.{_⊎_}
 use mathlib.Core.Bool.{Bool, true, cond, _&&_, not}
 use mathlib.Core.List.{List}
-use Prim.Native.Nat.{ℕ, suc, _*_, _<_, _≤_}
+use Prim.Native.Nat.{ℕ, suc, _+_, _*_, _/_, _%_, _<_, _≤_}
 use lib.ListN.{length}
 use lib.Dec.{eqb, ltb}
 use Rattle.maps.specs.Mark.{isMark, stay, between}
 use Rattle.maps.specs.Kernel.{Kernel}
 use Rattle.maps.specs.Removal.{goOn}
-use Rattle.maps.specs.Table.{entry, each, absent}
+use Rattle.maps.specs.Table.{entry, each, listed, absent}
 use Rattle.maps.specs.CheckBase.{present}
 use Rattle.facts.proofs.Checks.{There, Sound}
 
 -- the mark of dart d in kernel l below h: Δ where Λ is l, else 255
 abbrev pub kernelMark : (ℕ → ℕ) → (ℕ → ℕ) → ℕ → ℕ → ℕ
 kernelMark Λ Δ l d = cond (eqb (Λ d) l) (Δ d) stay
+
+-- Λ and Δ out of a joint row, which holds Λ·256 + Δ of each dart
+abbrev pub jointΛ : List ℕ → ℕ → ℕ
+jointΛ joint d = each joint d / 256
+
+abbrev pub jointΔ : List ℕ → ℕ → ℕ
+jointΔ joint d = each joint d % 256
+
+-- the mark row of kernel l
+abbrev pub kernelRow : ℕ → List ℕ → ℕ → List ℕ
+kernelRow N joint l = listed (kernelMark (jointΛ joint) (jointΔ joint) l) N
+
+-- dart e is the first from `from` on with Λ = l; where there is none, e is no dart
+pub record First (Λ : ℕ → ℕ) (l N from e : ℕ) : Type 0 where
+  pub after : from ≤ e
+  pub none : (x : ℕ) → from ≤ x → x < e → x < N → Λ x ≡ l → ⊥
+  pub here : e < N → Λ e ≡ l
+
+-- the darts from `from` on, strung by kernel: `head` has the first of each kernel, `next` the next after each dart
+pub record Linked (N : ℕ) (joint : List ℕ) (from : ℕ) (head next : List ℕ) : Type 0 where
+  pub heads : (k : ℕ) → k < 256 → First (jointΛ joint) k N from (each head k)
+  pub onward : (d : ℕ) → from ≤ d → d < N → First (jointΛ joint) (jointΛ joint d) N (d + 1) (each next d)
+
+-- the darts of kernel l, which are all marked, strung from `first` on
+pub record Strung (n N l first : ℕ) (joint next : List ℕ) : Type 0 where
+  pub joint-long : length joint ≡ N
+  pub next-long : N ≤ length next
+  pub small : (d : ℕ) → d < N → jointΛ joint d ≡ l → jointΔ joint d < n
+  pub start : First (jointΛ joint) l N 0 first
+  pub onward : (d : ℕ) → d < N → jointΛ joint d ≡ l → First (jointΛ joint) l N (d + 1) (each next d)
 
 -- sizes in range, and the lengths that go with them
 pub record Shape (n N : ℕ) (row table : List ℕ) : Type 0 where

@@ -1,28 +1,24 @@
-// Check a whole pyramid, with one lent table, and add a level. A mark row of 4,096 bytes is all the local memory. Assumes nothing.
-use super::kernel::mark_row;
-use super::kernel::removable;
-use super::kernel::remove;
-use super::kernel::whole;
+// Check a whole pyramid, with one lent table, and add a level. Λ and Δ in one row, 8,192 bytes, are all the local memory here. Assumes nothing.
+use super::climb::rise;
 use answers::Check;
 use answers::Dim;
 use answers::Level;
 use answers::Refusal;
 ghost use mathlib.Core.Path.{_≡_};
 ghost use mathlib.Core.Bool.{cond, not};
-ghost use Prim.Native.Nat.{suc, _≤_};
+ghost use Prim.Native.Nat.{suc, _+_, _*_, _≤_};
 ghost use lib.ListN.{length};
 ghost use lib.Dec.{eqb};
 ghost use Rattle.maps.specs.Mark.{isMark, stay};
-ghost use Rattle.maps.specs.Table.{entry, each, listed};
+ghost use Rattle.maps.specs.Table.{each, listed};
 ghost use Rattle.maps.specs.Folded.{addΛ, addΔ};
 ghost use Rattle.maps.specs.Verdict.{accepted};
-ghost use Rattle.maps.specs.Check.{check8, checkKernel};
+ghost use Rattle.maps.specs.Check.{check8};
 ghost use Rattle.maps.specs.CheckPyramid.{checkLent, checkLeaves};
 ghost use Rattle.maps.specs.AddLevel.{addLent, addHeight, addLambda, addDelta, addLeaves};
 ghost use Rattle.facts.proofs.Adding.{Row};
 ghost use Rattle.answers.specs.Numbers.{verdictOf};
-ghost use Rattle.checking.specs.Ready.{Tested};
-ghost use Rattle.checking.specs.Climb.{lentSizes, baseSizes, stepLeaves, Base, climbs, climbLeaves, baseAndMarks};
+ghost use Rattle.checking.specs.Climb.{lentSizes, baseSizes, joined, Base, climbs, climbLeaves, baseAndMarks};
 ghost use Rattle.checking.specs.Added.{addSizes, rowMarks, addMarks, ascends, ascendLeaves};
 ghost use Rattle.checking.specs.Answers.{addedOf, heightOf};
 
@@ -93,37 +89,32 @@ fn copy(rows: &[u16], table: &mut [u16])
     }
 }
 
-// One kernel: tested, and removed where it is accepted.
-fn step(n: Dim, darts: usize, l: Level, row: &[u8], table: &mut [u16]) -> Check
-    requires { ⌜ Tested (n .0) darts (now row) (now table) ⌝ }
-    ensures { λ r. ⌜ verdictOf r ≡ checkKernel (entry darts (now (table .entry))) (n .0) darts (each (now (row .entry))) (l .0) ⌝ }
-    ensures { λ _. ⌜ now (table .exit) ≡ stepLeaves (n .0) darts (l .0) (now (row .entry)) (now (table .entry)) ⌝ }
+// Λ and Δ in one number.
+fn joint_of(lambda: u8, delta: u8) -> u16
+    ensures { λ r. ⌜ r ≡ lambda * 256 + delta ⌝ }
 {
-    if let Check::Refused(r) = whole(n, darts, l, row, table) {
-        return Check::Refused(r);
-    }
-    if let Check::Refused(r) = removable(n, darts, l, row, table) {
-        return Check::Refused(r);
-    }
-    remove(n, darts, row, table);
-    Check::Accepted
+    lambda as u16 * 256 + delta as u16
 }
 
-// Kernels are taken in rising order, each on its own level, from the base that the table holds.
-fn climb(n: Dim, darts: usize, h: Level, lambda: &[u8], delta: &[u8], table: &mut [u16]) -> Check
-    requires { ⌜ Base (n .0) darts (h .0) (now lambda) (now delta) (now table) ⌝ }
-    ensures { λ r. ⌜ verdictOf r ≡ climbs (n .0) darts (h .0) (now (lambda .entry)) (now (delta .entry)) (now (table .entry)) ⌝ }
-    ensures { λ _. ⌜ now (table .exit) ≡ climbLeaves (n .0) darts (h .0) (now (lambda .entry)) (now (delta .entry)) (now (table .entry)) ⌝ }
+// Those of each dart.
+fn join(darts: usize, lambda: &[u8], delta: &[u8], joint: &mut [u16])
+    requires { ⌜ (length (now lambda) ≡ darts) × (length (now delta) ≡ darts) × (length (now joint) ≡ darts) ⌝ }
+    ensures { λ _. ⌜ now (joint .exit) ≡ listed (joined (each (now (lambda .entry))) (each (now (delta .entry)))) darts ⌝ }
 {
-    let mut row = [255u8; 4096];
-    let top = h.0;
-    for l in 0..top {
-        mark_row(darts, lambda, delta, l, &mut row[..darts]);
-        if let Check::Refused(r) = step(n, darts, Level(l), &row[..darts], table) {
-            return Check::Refused(r);
-        }
+    for d in 0..darts {
+        joint[d] = joint_of(lambda[d], delta[d]);
     }
-    Check::Accepted
+}
+
+// All kernels, from the base that the table holds.
+fn climb(n: Dim, darts: usize, h: Level, lambda: &[u8], delta: &[u8], table: &mut [u16]) -> Check
+    requires { ⌜ Base (n .0) darts (h .0) (each (now lambda)) (each (now delta)) (now table) × (length (now lambda) ≡ darts) × (length (now delta) ≡ darts) ⌝ }
+    ensures { λ r. ⌜ verdictOf r ≡ climbs (n .0) darts (h .0) (each (now (lambda .entry))) (each (now (delta .entry))) (now (table .entry)) ⌝ }
+    ensures { λ _. ⌜ now (table .exit) ≡ climbLeaves (n .0) darts (h .0) (each (now (lambda .entry))) (each (now (delta .entry))) (now (table .entry)) ⌝ }
+{
+    let mut joint = [0u16; 4096];
+    join(darts, lambda, delta, &mut joint[..darts]);
+    rise(n, darts, h, &joint[..darts], table)
 }
 
 // Check a whole pyramid. Accepted, the table holds the explicit level h; after 9 or 10 the level whose kernel failed.
@@ -223,27 +214,6 @@ fn add_marked(
     row_checked(n, darts, h, lambda, row)
 }
 
-// Kernels 0 to h−1, then the mark row as kernel h, from the base that the table holds.
-fn ascend(
-    n: Dim,
-    darts: usize,
-    h: Level,
-    lambda: &[u8],
-    delta: &[u8],
-    row: &[u8],
-    table: &mut [u16],
-) -> Check
-    requires { ⌜ Base (n .0) darts (h .0) (now lambda) (now delta) (now table) ⌝ }
-    requires { ⌜ (length (now row) ≡ darts) × Row (n .0) darts (h .0) (each (now lambda)) (each (now row)) ⌝ }
-    ensures { λ r. ⌜ verdictOf r ≡ ascends (n .0) darts (h .0) (now (lambda .entry)) (now (delta .entry)) (now (row .entry)) (now (table .entry)) ⌝ }
-    ensures { λ _. ⌜ now (table .exit) ≡ ascendLeaves (n .0) darts (h .0) (now (lambda .entry)) (now (delta .entry)) (now (row .entry)) (now (table .entry)) ⌝ }
-{
-    if let Check::Refused(r) = climb(n, darts, h, lambda, delta, table) {
-        return Check::Refused(r);
-    }
-    step(n, darts, h, row, table)
-}
-
 // Λ of a dart once the level is added: darts marked get the old h, the other survivors the new one.
 fn lambda_after(n: Dim, h: Level, lambda: u8, mark: u8) -> u8
     requires { ⌜ h .0 ≤ 32 ⌝ }
@@ -266,6 +236,47 @@ fn delta_after(n: Dim, delta: u8, mark: u8) -> u8
         return mark;
     }
     delta
+}
+
+// Λ and Δ of each dart in one number, once the level is added.
+fn join_added(
+    n: Dim,
+    darts: usize,
+    h: Level,
+    lambda: &[u8],
+    delta: &[u8],
+    row: &[u8],
+    joint: &mut [u16],
+)
+    requires { ⌜ (h .0 ≤ 32) × (length (now lambda) ≡ darts) × (length (now delta) ≡ darts) × (length (now row) ≡ darts) × (length (now joint) ≡ darts) ⌝ }
+    ensures { λ _. ⌜ now (joint .exit) ≡ listed (joined (addΛ (n .0) (h .0) (each (now (lambda .entry))) (each (now (row .entry)))) (addΔ (n .0) (each (now (delta .entry))) (each (now (row .entry))))) darts ⌝ }
+{
+    for d in 0..darts {
+        let mark = row[d];
+        let lambda_new = lambda_after(n, h, lambda[d], mark);
+        let delta_new = delta_after(n, delta[d], mark);
+        joint[d] = joint_of(lambda_new, delta_new);
+    }
+}
+
+// Kernels 0 to h−1, then the mark row as kernel h, from the base that the table holds.
+fn ascend(
+    n: Dim,
+    darts: usize,
+    h: Level,
+    lambda: &[u8],
+    delta: &[u8],
+    row: &[u8],
+    table: &mut [u16],
+) -> Check
+    requires { ⌜ Base (n .0) darts (h .0) (each (now lambda)) (each (now delta)) (now table) × (h .0 ≤ 32) × (length (now lambda) ≡ darts) × (length (now delta) ≡ darts) ⌝ }
+    requires { ⌜ (length (now row) ≡ darts) × Row (n .0) darts (h .0) (each (now lambda)) (each (now row)) ⌝ }
+    ensures { λ r. ⌜ verdictOf r ≡ ascends (n .0) darts (h .0) (now (lambda .entry)) (now (delta .entry)) (now (row .entry)) (now (table .entry)) ⌝ }
+    ensures { λ _. ⌜ now (table .exit) ≡ ascendLeaves (n .0) darts (h .0) (now (lambda .entry)) (now (delta .entry)) (now (row .entry)) (now (table .entry)) ⌝ }
+{
+    let mut joint = [0u16; 4096];
+    join_added(n, darts, h, lambda, delta, row, &mut joint[..darts]);
+    rise(n, darts, Level(h.0 + 1), &joint[..darts], table)
 }
 
 // The mark row folded into Λ and Δ.

@@ -89,7 +89,7 @@ module _ (n N h : ℕ) (Λ Δ mark : ℕ → ℕ) (r : Row n N h Λ mark) where
       go (stays q e u w) = (o .0, omega arith)
       go (before q e u w) = (o .0, omega (arith, o .1))
 
-  allowed-added : (d : ℕ) → d < N → refusedMarks n h (Λ d) (Δ d) ≡ false → refusedMarks n (suc h) (addΛ n h Λ mark d) (addΔ n Δ mark d) ≡ false
+  pub allowed-added : (d : ℕ) → d < N → refusedMarks n h (Λ d) (Δ d) ≡ false → refusedMarks n (suc h) (addΛ n h Λ mark d) (addΔ n Δ mark d) ≡ false
   allowed-added d ld e = cases-allowed n (suc h) (addΛ n h Λ mark d) (addΔ n Δ mark d) (go (dart d ld) (allowed-cases n h (Λ d) (Δ d) e))
     where
       go : Dart n h Λ Δ mark d → Allowed n h (Λ d) (Δ d) → Allowed n (suc h) (addΛ n h Λ mark d) (addΔ n Δ mark d)

@@ -13,13 +13,6 @@ use Rattle.checking.proofs.ClimbCheck.{Lent, copied-based}
 use Rattle.checking.proofs.AddCheck.{add-facts, row-marks, sizes-refused, marks-refused, ascend-refused, grown}
 use Rattle.checking.proofs.pyramid.add.Statement.{statement}
 use Rattle.checking.proofs.pyramid.add.Tie as tie
-use Rattle.checking.proofs.pyramid.add.Reads as reads
-use Rattle.checking.proofs.pyramid.add.Lts as lts
-use Rattle.checking.proofs.pyramid.add_lent.Reads as add-lent-reads
-use Rattle.checking.proofs.pyramid.add_marked.Reads as add-marked-reads
-use Rattle.checking.proofs.pyramid.ascend.Reads as ascend-reads
-use Rattle.checking.proofs.pyramid.copy.Reads as copy-reads
-use Rattle.checking.proofs.pyramid.fold_in.Reads as fold-in-reads
 
 -- past the first tests 1 to 4 and 20 are not refused; past the second, 5 to 8 are not
 sized : (c : tie.After-enum-told) → let a = c .before .before .before .before .before .before .before .before .before .before .before .args in addSizes (a .n .0) (a .darts) (a .h .0) (now (a .rows)) (now (a .lambda)) (now (a .delta)) (now (a .row)) (now (a .table)) ≡ accepted
@@ -92,7 +85,7 @@ ascend-requires c κs =
     let a = c .before .before .before .before .before .before .before .before .before .before .before .before .before .before .before .before .before .before .before .before .before .before .before .args in
     let f = facts (c .before .before .before .before .before .before .before .before .before .before .before .before) in
     let m = marked-parts (c .before .before .before .before .before .before .before) in (
-      copied-based (a .n .0) (a .darts) (a .h .0) (now (a .rows)) (now (a .lambda)) (now (a .delta)) (now (a .table)) (c .before .before .before .before .before .copy .ensures) (f .0) (m .0),
+      (copied-based (a .n .0) (a .darts) (a .h .0) (now (a .rows)) (now (a .lambda)) (now (a .delta)) (now (a .table)) (c .before .before .before .before .before .copy .ensures) (f .0) (m .0), f .0 .height, f .0 .lambda-long, f .0 .delta-long),
       (f .1, row-marks (a .n .0) (a .darts) (a .h .0) (now (a .rows)) (now (a .lambda)) (now (a .delta)) (now (a .row)) (now (a .table)) (m .1)),
     )
 

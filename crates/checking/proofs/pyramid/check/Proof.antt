@@ -8,12 +8,6 @@ use Rattle.checking.specs.Climb.{lentSizes, baseAndMarks}
 use Rattle.checking.proofs.ClimbCheck.{Lent, lent-facts, copied-based, check-sizes, check-marks, check-climbed}
 use Rattle.checking.proofs.pyramid.check.Statement.{statement}
 use Rattle.checking.proofs.pyramid.check.Tie as tie
-use Rattle.checking.proofs.pyramid.check.Reads as reads
-use Rattle.checking.proofs.pyramid.check.Lts as lts
-use Rattle.checking.proofs.pyramid.base_and_marks.Reads as base-and-marks-reads
-use Rattle.checking.proofs.pyramid.climb.Reads as climb-reads
-use Rattle.checking.proofs.pyramid.copy.Reads as copy-reads
-use Rattle.checking.proofs.pyramid.lent.Reads as lent-reads
 
 -- past the first tests 1 to 4 are not refused; past the second, 5 to 8 are not
 sized : (c : tie.After-enum-told) → let a = c .before .before .before .before .before .before .before .before .args in lentSizes (a .n .0) (a .darts) (a .h .0) (now (a .rows)) (now (a .lambda)) (now (a .delta)) (now (a .table)) ≡ accepted
@@ -67,7 +61,8 @@ copy-requires c κs = let f = facts (c .before .before .before .before) in f .ta
 climb-requires : tie.Need-climb-requires
 climb-requires c κs =
     let a = c .before .before .before .before .before .before .before .before .before .before .before .before .before .before .before .before .args in
-    copied-based (a .n .0) (a .darts) (a .h .0) (now (a .rows)) (now (a .lambda)) (now (a .delta)) (now (a .table)) (c .before .before .before .copy .ensures) (facts (c .before .before .before .before .before .before .before .before)) (marked (c .before .before .before .before .before))
+    let f = facts (c .before .before .before .before .before .before .before .before) in
+    (copied-based (a .n .0) (a .darts) (a .h .0) (now (a .rows)) (now (a .lambda)) (now (a .delta)) (now (a .table)) (c .before .before .before .copy .ensures) (facts (c .before .before .before .before .before .before .before .before)) (marked (c .before .before .before .before .before)), f .lambda-long, f .delta-long)
 
 same-length-3 : tie.Need-same-length-3
 same-length-3 c = search needs

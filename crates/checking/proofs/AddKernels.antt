@@ -1,0 +1,168 @@
+-- The pyramid with the mark row folded in: its kernels below h are those of Λ and Δ, and kernel h is the mark row. Assumes nothing.
+use mathlib.Core.Path.{_≡_, refl, sym, ap, _∙_, fun-ext}
+use mathlib.Core.Bool.{Bool, true, false}
+use mathlib.Core.List.{List}
+use Prim.Native.Nat.{ℕ, zero, suc, _≤_, _<_}
+use native.Mathlib.Omega.{arith}
+use lib.ListN.{length}
+use lib.Dec.{eqb, ltb}
+use borrow.Author.Tests.{eqb-true, ltb-true, ltb-false, lt-ltb, le-ltb}
+use Rattle.maps.specs.Verdict.{Verdict, accepted, refused, _then_, scan}
+use Rattle.maps.specs.Map.{Involutions}
+use Rattle.maps.specs.Mark.{isMark}
+use Rattle.maps.specs.Removal.{removal}
+use Rattle.maps.specs.Table.{entry, each, listed}
+use Rattle.maps.specs.Folded.{survives, marks, addΛ, addΔ, level, levelTable}
+use Rattle.maps.specs.Check.{checkKernel, kernelAt, checkKernels}
+use Rattle.maps.specs.CheckPyramid.{leftBehind}
+use Rattle.facts.proofs.Verdicts.{then-accepted, scan-same}
+use Rattle.facts.proofs.Tables.{explicit-same}
+use Rattle.facts.proofs.Adding.{Row, marks-kept, marks-new, allowed-added}
+use Rattle.facts.proofs.Climbing.{row-check, next-table, top-table}
+use Rattle.checking.specs.Ready.{jointΛ, jointΔ}
+use Rattle.checking.specs.Climb.{joined, Base, climbs, climbLeaves}
+use Rattle.checking.specs.Added.{newTop, ascends, ascendLeaves}
+use Rattle.checking.proofs.ClimbVerdicts.{Says, Late, passed, says, says-then, says-more, kernel-late, kernels-late}
+use Rattle.checking.proofs.ClimbJoint.{delta-small, past, joint-long, joint-Λ, joint-Δ}
+
+-- the second verdict matters only where the first is accepted
+then-same : (v w u : Verdict) → (v ≡ accepted → w ≡ u) → (v then w) ≡ (v then u)
+then-same accepted w u h = h refl
+then-same (refused k l i d) w u h = refl
+
+-- kernels below h and the mark row are refused with 9 or 10, and a level up to h
+pub ascends-late : (n N h : ℕ) (lambda delta row before : List ℕ) → Says (Late (λ x. x ≤ h)) (ascends n N h lambda delta row before)
+ascends-late n N h lambda delta row before =
+    let low = climbs n N h (each lambda) (each delta) before in
+    let last = checkKernel (level (entry N before) n N (marks h (each lambda) (each delta)) h) n N (each row) h in
+    says-then low last (says-more (λ k l p. (p .0, omega (arith, p .1))) low (kernels-late (entry N before) n N h (each lambda) (each delta)))
+    (says-more (λ k l p. (p .0, omega (arith, p .1))) last (kernel-late (level (entry N before) n N (marks h (each lambda) (each delta)) h) n N (each row) h))
+
+-- what is left is the same where the tables that it can be are
+left-same : (h : ℕ) (top top′ : List ℕ) (levels levels′ : ℕ → List ℕ) (found : List ℕ) (v : Verdict) → Says (Late (λ x. x ≤ h)) v → (v ≡ accepted → top ≡ top′) → ((l : ℕ) → l ≤ h → levels l ≡ levels′ l) → leftBehind top levels found v ≡ leftBehind top′ levels′ found v
+unfolding leftBehind
+left-same h top top′ levels levels′ found _ passed t s = t refl
+left-same h top top′ levels levels′ found _ (says k l i d p) t s = rw (p .0) (s l (p .1))
+
+module _ {n N h : ℕ} (lambda delta row : List ℕ) {before joint : List ℕ} (b : Base n N h (each lambda) (each delta) before) (low : h ≤ 32)
+    (lambda-long : length lambda ≡ N) (delta-long : length delta ≡ N) (k : Row n N h (each lambda) (each row))
+    (is : joint ≡ listed (joined (addΛ n h (each lambda) (each row)) (addΔ n (each delta) (each row))) N) where
+  abbrev a : Involutions
+  a = entry N before
+
+  abbrev Λ : ℕ → ℕ
+  Λ = each lambda
+
+  abbrev Δ : ℕ → ℕ
+  Δ = each delta
+
+  abbrev Λ′ : ℕ → ℕ
+  Λ′ = jointΛ joint
+
+  abbrev Δ′ : ℕ → ℕ
+  Δ′ = jointΔ joint
+
+  small : (d : ℕ) → d < N → addΔ n Δ (each row) d < 256
+  small d ld = delta-small n (suc h) (addΛ n h Λ (each row) d) (addΔ n Δ (each row) d) (b .dimension) (allowed-added n N h Λ Δ (each row) k d ld (b .allowed d ld))
+
+  new-Λ : (d : ℕ) → d < N → Λ′ d ≡ addΛ n h Λ (each row) d
+  new-Λ d ld = joint-Λ (addΛ n h Λ (each row)) (addΔ n Δ (each row)) is d ld (small d ld)
+
+  new-Δ : (d : ℕ) → d < N → Δ′ d ≡ addΔ n Δ (each row) d
+  new-Δ d ld = joint-Δ (addΛ n h Λ (each row)) (addΔ n Δ (each row)) is d ld (small d ld)
+
+  added-base : Base n N (suc h) Λ′ Δ′ before
+  added-base = record {
+    dimension = b .dimension;
+    darts = b .darts;
+    height = omega arith;
+    long = b .long;
+    valid = b .valid;
+    allowed = λ d ld. rw (new-Λ d ld, new-Δ d ld) (allowed-added n N h Λ Δ (each row) k d ld (b .allowed d ld));
+  }
+
+  -- the mark rows below h stay, and that of h is the mark row
+  kept : (l d : ℕ) → l < h → marks h Λ Δ l d ≡ marks (suc h) Λ′ Δ′ l d
+  kept l d f = go (ltb d N) refl
+    where
+      go : (x : Bool) → ltb d N ≡ x → marks h Λ Δ l d ≡ marks (suc h) Λ′ Δ′ l d
+      go true q = let ld = ltb-true d N q in rw (new-Λ d ld, new-Δ d ld) (marks-kept n N h Λ Δ (each row) k l d f ld)
+      go false q =
+          let m = ltb-false d N q in
+          rw (past lambda N d lambda-long m, past delta N d delta-long m, past joint N d (joint-long (addΛ n h Λ (each row)) (addΔ n Δ (each row)) is) m, lt-ltb l h f, lt-ltb l (suc h) (omega arith))
+
+  new : (d : ℕ) → d < N → marks (suc h) Λ′ Δ′ h d ≡ each row d
+  new d ld = rw (new-Λ d ld, new-Δ d ld) (marks-new n N h Λ Δ (each row) k d ld)
+
+  -- so levels up to h stay
+  level-kept : (l : ℕ) → l ≤ h → level a n N (marks h Λ Δ) l ≡ level a n N (marks (suc h) Λ′ Δ′) l
+  unfolding level
+  level-kept zero f = refl
+  level-kept (suc l) f =
+      ap (λ (A : Involutions). removal A n (marks h Λ Δ l) N) (level-kept l (omega arith))
+      ∙ ap (λ (m : ℕ → ℕ). removal (level a n N (marks (suc h) Λ′ Δ′) l) n m N) (fun-ext (λ d. kept l d f))
+
+  kernel-kept : (l : ℕ) → l < h → kernelAt a n N (suc h) Λ′ Δ′ l ≡ kernelAt a n N h Λ Δ l
+  unfolding kernelAt
+  kernel-kept l f =
+      sym (ap (λ (A : Involutions). checkKernel A n N (marks h Λ Δ l) l) (level-kept l (omega arith))
+      ∙ ap (λ (m : ℕ → ℕ). checkKernel (level a n N (marks (suc h) Λ′ Δ′) l) n N m l) (fun-ext (λ d. kept l d f)))
+
+  survives-kept : (l d : ℕ) → l ≤ h → d < N → survives Λ l d ≡ survives Λ′ l d
+  survives-kept l d f ld = rw (new-Λ d ld) (go (isMark n (each row d)) refl (eqb (Λ d) h) refl)
+    where
+      go : (x : Bool) → isMark n (each row d) ≡ x → (y : Bool) → eqb (Λ d) h ≡ y → survives Λ l d ≡ survives (addΛ n h Λ (each row)) l d
+      go true q y e = rw (q, k .top d ld q)
+      go false q true e = rw (q, e, eqb-true (Λ d) h e, le-ltb h l f, le-ltb (suc h) l (omega arith))
+      go false q false e = rw (q, e)
+
+  table-kept : (l : ℕ) → l ≤ h → levelTable a n N (suc h) Λ′ Δ′ l ≡ levelTable a n N h Λ Δ l
+  table-kept l f =
+      rw (level-kept l f)
+      (explicit-same (level a n N (marks (suc h) Λ′ Δ′) l) (level a n N (marks (suc h) Λ′ Δ′) l) n N (survives Λ′ l) (survives Λ l) (λ d ld. sym (survives-kept l d f ld)) (λ i d li ld q. refl))
+
+  scan-kept : scan h (kernelAt a n N (suc h) Λ′ Δ′) ≡ climbs n N h Λ Δ before
+  unfolding checkKernels
+  scan-kept = scan-same h (kernelAt a n N (suc h) Λ′ Δ′) (kernelAt a n N h Λ Δ) kernel-kept
+
+  -- the kernels below h are accepted
+  module _ (checked : climbs n N h Λ Δ before ≡ accepted) where
+    scanned : scan h (kernelAt a n N h Λ Δ) ≡ accepted
+    unfolding checkKernels
+    scanned = checked
+
+    last-is : kernelAt a n N (suc h) Λ′ Δ′ h ≡ checkKernel (level a n N (marks h Λ Δ) h) n N (each row) h
+    unfolding kernelAt
+    last-is =
+        let check = row-check a n N h Λ Δ (b .dimension) (b .darts) (b .valid) (b .allowed) h (omega arith) scanned (each row) (λ d ld q. let t = k .top d ld q in omega arith) in
+        sym (ap (λ (A : Involutions). checkKernel A n N (marks (suc h) Λ′ Δ′ h) h) (level-kept h (omega arith))) ∙ sym (check (marks (suc h) Λ′ Δ′ h) new) ∙ check (each row) (λ d ld. refl)
+
+    -- and so is the mark row
+    top-is : checkKernel (level a n N (marks h Λ Δ) h) n N (each row) h ≡ accepted → levelTable a n N (suc h) Λ′ Δ′ (suc h) ≡ newTop n N h lambda delta row before
+    top-is accept =
+        let c = added-base in
+        let next = next-table a n N (suc h) Λ′ Δ′ (c .dimension) (c .darts) (c .valid) (c .allowed) h (omega arith) (scan-kept ∙ checked) (omega arith) (each row) new (last-is ∙ accept) in
+        let top = top-table a n N h Λ Δ (b .dimension) (b .darts) (b .valid) (b .allowed) checked (each row) k accept (each row) (λ d ld. refl) in
+        sym (rw (table-kept h (omega arith)) at next) ∙ top
+
+  climbs-is : climbs n N (suc h) Λ′ Δ′ before ≡ ascends n N h lambda delta row before
+  unfolding checkKernels scan
+  climbs-is = rw scan-kept (then-same (climbs n N h Λ Δ before) (kernelAt a n N (suc h) Λ′ Δ′ h) (checkKernel (level a n N (marks h Λ Δ) h) n N (each row) h) last-is)
+
+  leaves-is : climbLeaves n N (suc h) Λ′ Δ′ before ≡ ascendLeaves n N h lambda delta row before
+  leaves-is =
+      let low = climbs n N h Λ Δ before in
+      let last = checkKernel (level a n N (marks h Λ Δ) h) n N (each row) h in
+      let top = levelTable a n N (suc h) Λ′ Δ′ (suc h) in
+      ap (leftBehind top (levelTable a n N (suc h) Λ′ Δ′) before) climbs-is
+      ∙ left-same h top (newTop n N h lambda delta row before) (levelTable a n N (suc h) Λ′ Δ′) (levelTable a n N h Λ Δ) before (ascends n N h lambda delta row before) (ascends-late n N h lambda delta row before)
+      (λ e. let s = then-accepted low last e in top-is (s .0) (s .1)) table-kept
+
+  -- as the code has it, with the new height
+  module _ {new-h : ℕ} (grown : new-h ≡ suc h) where
+    pub ascend-base : Base n N new-h (jointΛ joint) (jointΔ joint) before
+    ascend-base = rw grown added-base
+
+    pub ascend-risen : (v : Verdict) (after : List ℕ) → v ≡ climbs n N new-h (jointΛ joint) (jointΔ joint) before → after ≡ climbLeaves n N new-h (jointΛ joint) (jointΔ joint) before
+        → (v ≡ ascends n N h lambda delta row before) × (after ≡ ascendLeaves n N h lambda delta row before)
+    ascend-risen v after e f = ((rw grown at e) ∙ climbs-is, (rw grown at f) ∙ leaves-is)
