@@ -1,4 +1,5 @@
+mod Words
+mod Landings
 mod Base
-mod Ends
 mod Turns
 mod Questions
