@@ -54,20 +54,6 @@ fn lent(
     Check::Accepted
 }
 
-// Number 8 of Λ and Δ, over darts.
-fn marks_checked(n: Dim, darts: u16, h: Level, lambda: &[u8], delta: &[u8]) -> Check
-    requires { ⌜ (length (now lambda) ≡ darts) × (length (now delta) ≡ darts) ⌝ }
-    ensures { λ r. ⌜ verdictOf r ≡ check8 (λ _ d. d) (n .0) darts (h .0) (each (now (lambda .entry))) (each (now (delta .entry))) ⌝ }
-{
-    for d in 0..darts {
-        let at = d as usize;
-        if answers::marks_refused(n, h, Level(lambda[at]), Dim(delta[at])) {
-            return Check::Refused(Refusal::Marks(Level(0), Dim(0), d));
-        }
-    }
-    Check::Accepted
-}
-
 // Numbers 5 to 8, before anything lent is written.
 fn base_and_marks(n: Dim, darts: u16, h: Level, rows: &[u16], lambda: &[u8], delta: &[u8]) -> Check
     requires { ⌜ (baseSizes (n .0) darts (now rows) ≡ accepted) × (length (now lambda) ≡ darts) × (length (now delta) ≡ darts) ⌝ }
@@ -76,7 +62,7 @@ fn base_and_marks(n: Dim, darts: u16, h: Level, rows: &[u16], lambda: &[u8], del
     if let Check::Refused(r) = bases::check_base(n, darts, rows) {
         return Check::Refused(r);
     }
-    marks_checked(n, darts, h, lambda, delta)
+    answers::marks_refusal(n, darts, h, lambda, delta, Level(0))
 }
 
 // The base, copied into the lent table.

@@ -7,13 +7,11 @@ use Rattle.maps.specs.Table.{entry, each}
 use Rattle.maps.specs.Check.{checkMap, at8, check8}
 use Rattle.answers.specs.Numbers.{verdictOf}
 use Rattle.answers.proofs.Refusals.{refused-then}
+use Rattle.answers.proofs.Marked.{marks-decide}
+use Rattle.maps.specs.MarksBack.{atMarks8}
 use Rattle.checking.proofs.ClimbCheck.{base-map}
 use Rattle.checking.proofs.pyramid.base_and_marks.Statement.{statement}
 use Rattle.checking.proofs.pyramid.base_and_marks.Tie as tie
-use Rattle.checking.proofs.pyramid.base_and_marks.Reads as reads
-use Rattle.checking.proofs.pyramid.base_and_marks.Lts as lts
-use Rattle.bases.proofs.check_base.Reads as check-base-reads
-use Rattle.checking.proofs.pyramid.marks_checked.Reads as marks-checked-reads
 
 -- 1, 2 and 4 have passed, so the check of the base is that of its map
 map-is : (c : tie.After-check-base) → let a = c .before .before .before .before .args in verdictOf (c .check-base .result) ≡ checkMap (entry (a .darts) (now (a .rows))) (a .n .0) (a .darts) (λ d. true)
@@ -37,14 +35,18 @@ returns c =
 enum-told : tie.Need-enum-told
 enum-told c = search needs
 
-marks-checked-requires : tie.Need-marks-checked-requires
-marks-checked-requires c κs = search needs
+marks-refusal-requires : tie.Need-marks-refusal-requires
+marks-refusal-requires c κs = search needs
 
 returns-2 : tie.Need-returns-2
-unfolding at8 check8
-returns-2 c = rw (sym (map-is (c .before .before .before)) ∙ ap verdictOf (c .before .enum-told .given .1)) (c .marks-checked .ensures)
+unfolding at8 check8 atMarks8
+returns-2 c =
+    let a = c .before .before .before .before .before .before .before .args in
+    let p = c .before .before .before .before .before .before .before .pre in
+    rw (sym (map-is (c .before .before .before)) ∙ ap verdictOf (c .before .enum-told .given .1))
+    (c .marks-refusal .ensures ∙ marks-decide (a .n .0) (a .darts) (a .h .0) (now (a .lambda)) (now (a .delta)) 0 (p .1) (p .2))
 
 pub base-and-marks-spec : {M : Type 1} → statement M
 base-and-marks-spec =
     tie.close
-    (tie.spec check-base-requires enum-known-r returns enum-told marks-checked-requires returns-2)
+    (tie.spec check-base-requires enum-known-r returns enum-told marks-refusal-requires returns-2)
