@@ -3,7 +3,7 @@
 and what it passes on, then those of its callees; read out of the code.   python3 tests/stack.py [LIBRARY]"""
 import re, subprocess, sys
 
-# A function that calls itself is one of the reading by levels: once for each level, 0 to 32.
+# A function that calls itself, or others that call it, is one of the reading by levels: once for each level, 0 to 32.
 LEVELS = 33
 
 
@@ -46,10 +46,22 @@ def callees(lines, functions):
     return {name for name in names if name in functions}
 
 
+def reached(names, functions):
+    """What these functions call, and what that calls."""
+    found, new = set(), set(names)
+    while new:
+        new = set().union(*(callees(functions[f], functions) for f in new)) - found
+        found |= new
+    return found
+
+
 def stack(name, functions):
-    below = callees(functions[name], functions)
-    own = frame(functions[name]) * (LEVELS if name in below else 1)
-    return own + max((stack(f, functions) for f in below - {name}), default=0)
+    """Functions that call each other take, at each level, at most all their frames together."""
+    below = reached({name}, functions)
+    cycle = {f for f in below if name in reached({f}, functions)} if name in below else set()
+    own = LEVELS * sum(frame(functions[f]) for f in cycle) or frame(functions[name])
+    calls = set().union(*(callees(functions[f], functions) for f in cycle | {name})) - cycle - {name}
+    return own + max((stack(f, functions) for f in calls), default=0)
 
 
 functions = disassembled(sys.argv[1] if len(sys.argv) > 1 else "target/staticlib/libzompelgors.a")
