@@ -30,7 +30,7 @@ stepLeaves n N l row table = ifAccepted (checkKernel (entry N table) n N (each r
 abbrev pub joined : (ℕ → ℕ) → (ℕ → ℕ) → ℕ → ℕ
 joined Λ Δ d = Λ d * 256 + Δ d
 
--- base and marks as they are once 1 to 8 have passed; a level added may be the 33rd
+-- base and marks as they are once 1 to 8 have passed, of a pyramid or of one with a level more
 pub record Base (n N h : ℕ) (Λ Δ : ℕ → ℕ) (table : List ℕ) : Type 0 where
   pub dimension : n ≤ 4
   pub darts : N ≤ 4096

@@ -149,7 +149,7 @@ fn relink(n: u8, darts: usize, l: u8, joint: &[u16], next: &[u16], first: u16, t
     }
 }
 
-// Row i cleared: 65,535 at the darts of kernel l.
+// Row i cleared: 65,535 at the darts of kernel l, which l and the joint row name in the contract.
 fn clear_row(
     n: u8,
     darts: usize,
