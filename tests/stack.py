@@ -3,7 +3,9 @@
 and what it passes on, then those of its callees; read out of the code.   python3 tests/stack.py [LIBRARY]"""
 import re, subprocess, sys
 
-# A function that calls itself, or others that call it, is one of the reading by levels: once for each level, 0 to 32.
+# How deep functions call themselves or each other: an unfolding once for each row, 0 to 4; a reading by levels once for
+# each level, 0 to 32.
+DEPTHS = {"reading::rows_to": 5}
 LEVELS = 33
 
 
@@ -56,10 +58,10 @@ def reached(names, functions):
 
 
 def stack(name, functions):
-    """Functions that call each other take, at each level, at most all their frames together."""
+    """Functions that call each other take, each time, at most all their frames together."""
     below = reached({name}, functions)
     cycle = {f for f in below if name in reached({f}, functions)} if name in below else set()
-    own = LEVELS * sum(frame(functions[f]) for f in cycle) or frame(functions[name])
+    own = DEPTHS.get(name, LEVELS) * sum(frame(functions[f]) for f in cycle) or frame(functions[name])
     calls = set().union(*(callees(functions[f], functions) for f in cycle | {name})) - cycle - {name}
     return own + max((stack(f, functions) for f in calls), default=0)
 
