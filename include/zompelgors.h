@@ -29,7 +29,7 @@ extern "C" {
  * marks and words held before is not read, unless the pointer is const.
  *
  * Nothing is allocated and nothing is kept between calls, so calls may run at once on several threads where none writes
- * what another is lent. zg_mark takes the most stack, between 12 and 13 KiB; docs/INTEGRATING.md has them all, with the
+ * what another is lent. zg_check and zg_add take the most stack, about 17 KiB; docs/INTEGRATING.md has them all, with the
  * bytes to lend and the bounds on reads.
  *
  * What is returned

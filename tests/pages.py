@@ -46,7 +46,7 @@ def definitions_page():
         rows.append(f"| {path.relative_to(ROOT)} | {what} | {names} |")
     return (
         "# What a reader must believe\n\n"
-        "Every contract and every theorem speaks by these definitions alone; each has the sentence that it states above it. "
+        "The contract of every public function and every theorem that is promised speak by these definitions alone; each has the sentence that it states above it. "
         "The files hold nothing else. The number after a name is its line.\n\n"
         f"{total} definitions in {len(files)} files of {lines} lines.\n\n"
         "| File | Holds | Definitions |\n|---|---|---|\n" + "\n".join(rows) + "\n\n"

@@ -1,5 +1,6 @@
 #!/bin/bash
-# Compares the library with the vectors, with an independent implementation and with CGAL, and runs the Rust tests.
+# Compares the library with the vectors, with an independent implementation and with CGAL, runs the Rust tests, and holds
+# the pages of docs/ to the sources.
 #
 #   LIB       the library, default target/staticlib/libzompelgors.a
 #   COUNT     random cases, default 1,000,000; SEED the first seed, default 1
@@ -86,6 +87,7 @@ elif [ ${#run[@]} -gt 0 ] || [ "${LIB##*/}" != libzompelgors.a ]; then
 else
     report "Rust" "$BUILD/rust.txt" rust_tests
 fi
+report "pages of docs/ against the sources" "$BUILD/pages.txt" python3 tests/pages.py
 echo
 echo "How often each number occurred in the random cases (0: accepted)"
 grep -v '^case\|^independent\|^library' "$BUILD/random.txt" | sed '$d'
