@@ -20,7 +20,7 @@ use Rattle.maps.specs.CheckBase.{present}
 use Rattle.facts.proofs.Levels.{taken-is, narrow}
 use Rattle.facts.proofs.Tables.{explicit-of, explicit-same}
 use Rattle.facts.proofs.Checks.{There, Sound, upto, kernel-sound}
-use Rattle.facts.proofs.Stored.{stored-present, stored-sound, stored-kernel, stored-check, stored-removal}
+use Rattle.facts.proofs.Stored.{stored-present, stored-sound, stored-check, stored-removal}
 use Rattle.facts.proofs.Adding.{Row, Allowed, removed, never, allowed-cases, level-new}
 use Rattle.facts.proofs.Verdicts.{and-both}
 
@@ -86,11 +86,7 @@ module _ (a : Involutions) (n N h : ℕ) (Λ Δ : ℕ → ℕ) (ln : n ≤ 4) (l
         kernel-there : Kernel A n (There A n N on) mark
         kernel-there = kernel-sound A n N mark l (There A n N on) valid-there (λ d o. o .0) passed
 
-        -- accepted, it is a kernel of the table
-        pub row-kernel : Kernel (entry N T) n (There (entry N T) n N (present N T)) row
-        row-kernel = stored-kernel A n N on few valid-there mark row same marked-mark kernel-there
-
-        -- and its removal is stored
+        -- accepted, its removal is stored
         pub row-removed : (next : ℕ → Bool) → ((d : ℕ) → d < N → (on d && not (isMark n (mark d))) ≡ next d)
             → explicit (removal (entry N T) n row N) n N (λ d. present N T d && not (isMark n (row d))) ≡ explicit (removal A n mark N) n N next
         row-removed = stored-removal A n N on few valid-there mark row same marked-mark kernel-there

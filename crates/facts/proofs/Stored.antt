@@ -16,7 +16,7 @@ use Rattle.maps.specs.Check.{leaves, notRemovable, at9, at10, check9, check10, 
 use Rattle.maps.specs.CheckBase.{present}
 use Rattle.facts.proofs.Verdicts.{scan-same, and-both}
 use Rattle.facts.proofs.Tables.{entry-explicit, explicit-same}
-use Rattle.facts.proofs.Agreement.{removal-local, kernel-same, valid-same}
+use Rattle.facts.proofs.Agreement.{removal-local, valid-same}
 use Rattle.facts.proofs.Checks.{There, Sound}
 
 -- a map a on the darts d < N with `on d`
@@ -61,9 +61,6 @@ module _ (a : Involutions) (n N : ℕ) (on : ℕ → Bool) (few : N ≤ absent) 
 
   -- marks of darts of the level alone, and a row that holds them
   module _ (mark row : ℕ → ℕ) (same : (d : ℕ) → d < N → mark d ≡ row d) (marked : (d : ℕ) → d < N → isMark n (mark d) ≡ true → on d ≡ true) where
-    pub stored-kernel : Kernel a n (There a n N on) mark → Kernel (entry N T) n (There (entry N T) n N (present N T)) row
-    stored-kernel k = kernel-same a (entry N T) n (There a n N on) (There (entry N T) n N (present N T)) mark row v k stored (λ d o. same d (o .0)) to-there
-
     at9-same : (l d j : ℕ) → d < N → j ≤ n → at9 (entry N T) n N row l d j ≡ at9 a n N mark l d j
     unfolding at9
     at9-same l d j ld lj = go (isMark n (mark d)) refl

@@ -102,7 +102,7 @@ fn copy_few_entries(bytes: &[u8], from: usize, count: usize, to: &mut [u16], at:
 }
 
 // A body of bytes, copied to the front of a slice.
-pub fn copy_bytes(bytes: &[u8], from: usize, count: usize, to: &mut [u8])
+pub(crate) fn copy_bytes(bytes: &[u8], from: usize, count: usize, to: &mut [u8])
     requires { ⌜ (from + count ≤ length (now bytes)) × (count ≤ length (now to)) ⌝ }
     ensures { λ _. ⌜ now (to .exit) ≡ laid (byteFrom (now (bytes .entry)) from) 0 count (now (to .entry)) ⌝ }
 {
@@ -113,7 +113,7 @@ pub fn copy_bytes(bytes: &[u8], from: usize, count: usize, to: &mut [u8])
 }
 
 // A row of one byte an entry.
-pub fn copy_narrow(bytes: &[u8], from: usize, count: usize, to: &mut [u16], at: usize)
+pub(crate) fn copy_narrow(bytes: &[u8], from: usize, count: usize, to: &mut [u16], at: usize)
     requires { ⌜ (from + count ≤ length (now bytes)) × (at + count ≤ length (now to)) ⌝ }
     ensures { λ _. ⌜ now (to .exit) ≡ laid (byteFrom (now (bytes .entry)) from) at count (now (to .entry)) ⌝ }
 {
@@ -123,7 +123,7 @@ pub fn copy_narrow(bytes: &[u8], from: usize, count: usize, to: &mut [u16], at: 
 }
 
 // A row of two bytes an entry.
-pub fn copy_wide(bytes: &[u8], from: usize, count: usize, to: &mut [u16], at: usize)
+pub(crate) fn copy_wide(bytes: &[u8], from: usize, count: usize, to: &mut [u16], at: usize)
     requires { ⌜ (from + 2 * count ≤ length (now bytes)) × (at + count ≤ length (now to)) ⌝ }
     ensures { λ _. ⌜ now (to .exit) ≡ laid (twoFrom (now (bytes .entry)) from) at count (now (to .entry)) ⌝ }
 {

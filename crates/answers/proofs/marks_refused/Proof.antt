@@ -4,8 +4,6 @@ use borrow.Author.Tests.{lt-ltb, le-ltb}
 use Rattle.answers.proofs.Tests.{leb-not}
 use Rattle.answers.proofs.marks_refused.Statement.{statement}
 use Rattle.answers.proofs.marks_refused.Tie as tie
-use Rattle.answers.proofs.marks_refused.Reads as reads
-use Rattle.answers.proofs.marks_refused.Lts as lts
 
 -- src/lib.rt:70:9
 returns : tie.Need-returns

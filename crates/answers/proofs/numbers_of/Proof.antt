@@ -4,10 +4,6 @@ use Rattle.answers.specs.Numbers.{refusalOf, said}
 use borrow.Author.Needs.{needs}
 use Rattle.answers.proofs.numbers_of.Statement.{statement}
 use Rattle.answers.proofs.numbers_of.Tie as tie
-use Rattle.answers.proofs.numbers_of.Reads as reads
-use Rattle.answers.proofs.numbers_of.Lts as lts
-use Rattle.answers.proofs.at_offset.Reads as at-offset-reads
-use Rattle.answers.proofs.placed.Reads as placed-reads
 
 -- src/lib.rt:105:31
 enum-told : tie.Need-enum-told

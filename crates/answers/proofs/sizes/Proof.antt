@@ -4,8 +4,6 @@ use borrow.Author.Tests.{le-leb, lt-leb, lt-ltb, le-ltb}
 use Rattle.maps.specs.Sizes.{sizes, number1, number2, number3}
 use Rattle.answers.proofs.sizes.Statement.{statement}
 use Rattle.answers.proofs.sizes.Tie as tie
-use Rattle.answers.proofs.sizes.Reads as reads
-use Rattle.answers.proofs.sizes.Lts as lts
 
 -- src/lib.rt:48:9
 returns : tie.Need-returns

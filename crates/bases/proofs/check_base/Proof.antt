@@ -3,9 +3,6 @@ use Rattle.maps.specs.CheckBase.{checkBase}
 use borrow.Author.Needs.{needs}
 use Rattle.bases.proofs.check_base.Statement.{statement}
 use Rattle.bases.proofs.check_base.Tie as tie
-use Rattle.bases.proofs.check_base.Reads as reads
-use Rattle.bases.proofs.check_base.Lts as lts
-use Rattle.bases.proofs.check_table.Reads as check-table-reads
 
 check-table-requires : tie.Need-check-table-requires
 check-table-requires c κs = search needs

@@ -14,10 +14,6 @@ use Rattle.bases.proofs.Places.{table-fits, lent-rows}
 use borrow.Author.Needs.{needs}
 use Rattle.bases.proofs.check_table.Statement.{statement}
 use Rattle.bases.proofs.check_table.Tie as tie
-use Rattle.bases.proofs.check_table.Reads as reads
-use Rattle.bases.proofs.check_table.Lts as lts
-use Rattle.answers.proofs.sizes.Reads as sizes-reads
-use Rattle.bases.proofs.map_refused.Reads as map-refused-reads
 
 -- after the first test the sizes are accepted
 accepted-sizes : (c : tie.After-enum-told) → let a = c .before .before .before .before .args in sizes (a .n .0) (a .darts) 0 ≡ accepted

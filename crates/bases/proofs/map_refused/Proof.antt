@@ -8,11 +8,6 @@ use Rattle.bases.specs.InTable.{check5In, check6In}
 use borrow.Author.Needs.{needs}
 use Rattle.bases.proofs.map_refused.Statement.{statement}
 use Rattle.bases.proofs.map_refused.Tie as tie
-use Rattle.bases.proofs.map_refused.Reads as reads
-use Rattle.bases.proofs.map_refused.Lts as lts
-use Rattle.bases.proofs.first_stray.Reads as first-stray-reads
-use Rattle.bases.proofs.number6.Reads as number6-reads
-use Rattle.bases.proofs.number7.Reads as number7-reads
 
 -- past the test of 5, 5 is not refused; past that of 6, 6 is not
 five : (c : tie.After-enum-told) → let a = c .before .before .before .before .args in check5In (a .explicit) (a .n .0) (a .darts) (now (a .table)) ≡ accepted

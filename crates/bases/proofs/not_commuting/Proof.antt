@@ -5,10 +5,6 @@ use borrow.Author.Tests.{lt-ltb}
 use borrow.Author.Needs.{needs}
 use Rattle.bases.proofs.not_commuting.Statement.{statement}
 use Rattle.bases.proofs.not_commuting.Tie as tie
-use Rattle.bases.proofs.not_commuting.Reads as reads
-use Rattle.bases.proofs.not_commuting.Lts as lts
-use Rattle.bases.proofs.at.Reads as at-reads
-use Rattle.bases.proofs.there.Reads as there-reads
 
 there-requires : tie.Need-there-requires
 there-requires c κs = search needs

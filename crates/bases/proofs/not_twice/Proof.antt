@@ -3,10 +3,6 @@ use mathlib.Core.Path.{sym, _∙_}
 use borrow.Author.Needs.{needs}
 use Rattle.bases.proofs.not_twice.Statement.{statement}
 use Rattle.bases.proofs.not_twice.Tie as tie
-use Rattle.bases.proofs.not_twice.Reads as reads
-use Rattle.bases.proofs.not_twice.Lts as lts
-use Rattle.bases.proofs.at.Reads as at-reads
-use Rattle.bases.proofs.there.Reads as there-reads
 
 there-requires : tie.Need-there-requires
 there-requires c κs = search needs

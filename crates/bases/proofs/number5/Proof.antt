@@ -13,9 +13,6 @@ use Rattle.bases.specs.InTable.{straysIn}
 use Rattle.bases.proofs.Places.{rows-row, rows-none, rows-first}
 use Rattle.bases.proofs.number5.Statement.{statement}
 use Rattle.bases.proofs.number5.Tie as tie
-use Rattle.bases.proofs.number5.Reads as reads
-use Rattle.bases.proofs.number5.Lts as lts
-use Rattle.bases.proofs.strays.Reads as strays-reads
 
 abbrev Inv-loop : tie.InvT-loop
 Inv-loop explicit table darts found₀ i d₀ i-end found d = (d ≤ darts) × (i < i-end) × ((k : ℕ) → k < i → (e : ℕ) → e < darts → straysIn explicit darts table k e ≡ false) × ((e : ℕ) → e < d → straysIn explicit darts table i e ≡ false) × (found ≡ Nowhere)

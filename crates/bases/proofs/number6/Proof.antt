@@ -13,9 +13,6 @@ use Rattle.bases.specs.InTable.{notTwiceIn}
 use Rattle.bases.proofs.Places.{rows-row, rows-none, rows-first, inside}
 use Rattle.bases.proofs.number6.Statement.{statement}
 use Rattle.bases.proofs.number6.Tie as tie
-use Rattle.bases.proofs.number6.Reads as reads
-use Rattle.bases.proofs.number6.Lts as lts
-use Rattle.bases.proofs.not_twice.Reads as not-twice-reads
 
 abbrev Inv-loop : tie.InvT-loop
 Inv-loop explicit table darts found₀ i d₀ i-end found d = (d ≤ darts) × (i < i-end) × ((k : ℕ) → k < i → (e : ℕ) → e < darts → notTwiceIn explicit darts table k e ≡ false) × ((e : ℕ) → e < d → notTwiceIn explicit darts table i e ≡ false) × (found ≡ Nowhere)

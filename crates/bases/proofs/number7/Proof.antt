@@ -13,9 +13,6 @@ use Rattle.bases.specs.InTable.{Row, presentIf, notCommutingIn}
 use Rattle.bases.proofs.Places.{rows-row, near, none7, first7, inside}
 use Rattle.bases.proofs.number7.Statement.{statement}
 use Rattle.bases.proofs.number7.Tie as tie
-use Rattle.bases.proofs.number7.Reads as reads
-use Rattle.bases.proofs.number7.Lts as lts
-use Rattle.bases.proofs.not_commuting.Reads as not-commuting-reads
 
 abbrev Inv-loop2 : tie.InvT-loop2
 Inv-loop2 explicit table n darts found₀ i j d₀ i-end j-end found d = (d ≤ darts) × (i < i-end) × (i + 2 ≤ j) × (j < j-end) × ((k : ℕ) → k < i → (f : ℕ) → f < i-end → (e : ℕ) → e < darts → notCommutingIn explicit darts table k f e ≡ false) × ((f : ℕ) → f < j → (e : ℕ) → e < darts → notCommutingIn explicit darts table i f e ≡ false) × ((e : ℕ) → e < d → notCommutingIn explicit darts table i j e ≡ false) × (found ≡ Nowhere)

@@ -7,10 +7,6 @@ use Rattle.maps.specs.Table.{entry}
 use borrow.Author.Needs.{needs}
 use Rattle.bases.proofs.strays.Statement.{statement}
 use Rattle.bases.proofs.strays.Tie as tie
-use Rattle.bases.proofs.strays.Reads as reads
-use Rattle.bases.proofs.strays.Lts as lts
-use Rattle.bases.proofs.at.Reads as at-reads
-use Rattle.bases.proofs.there.Reads as there-reads
 
 at-requires : tie.Need-at-requires
 at-requires c κs = search needs

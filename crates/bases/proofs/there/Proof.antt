@@ -2,9 +2,6 @@
 use borrow.Author.Needs.{needs}
 use Rattle.bases.proofs.there.Statement.{statement}
 use Rattle.bases.proofs.there.Tie as tie
-use Rattle.bases.proofs.there.Reads as reads
-use Rattle.bases.proofs.there.Lts as lts
-use Rattle.bases.proofs.at.Reads as at-reads
 
 at-requires : tie.Need-at-requires
 at-requires c κs = search needs

@@ -5,9 +5,6 @@ use lib.ListN.{length}
 use borrow.Author.Needs.{needs}
 use Rattle.edges.proofs.free_rows.Statement.{statement}
 use Rattle.edges.proofs.free_rows.Tie as tie
-use Rattle.edges.proofs.free_rows.Reads as reads
-use Rattle.edges.proofs.free_rows.Lts as lts
-use Rattle.edges.proofs.after.Reads as after-reads
 
 abbrev Inv-loop : tie.InvT-loop
 Inv-loop darts rows₀ d₀ k₀ k-end rows d k = (k ≤ k-end) × (k-end ≡ length rows₀) × (length rows ≡ length rows₀)

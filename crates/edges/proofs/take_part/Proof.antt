@@ -5,11 +5,6 @@ use lib.Seq.{length-take-le}
 use borrow.Author.Needs.{needs}
 use Rattle.edges.proofs.take_part.Statement.{statement}
 use Rattle.edges.proofs.take_part.Tie as tie
-use Rattle.edges.proofs.take_part.Reads as reads
-use Rattle.edges.proofs.take_part.Lts as lts
-use Rattle.edges.proofs.refused.Reads as refused-reads
-use Rattle.edges.proofs.taken.Reads as taken-reads
-use Rattle.records.proofs.take.Reads as take-reads
 
 -- src/main.rt:99:29
 slice-aggregate-take : tie.Need-slice-aggregate-take

@@ -5,9 +5,6 @@ use lib.ListN.{length}
 use borrow.Author.Needs.{needs}
 use Rattle.levels.proofs.all_levels.Statement.{statement}
 use Rattle.levels.proofs.all_levels.Tie as tie
-use Rattle.levels.proofs.all_levels.Reads as reads
-use Rattle.levels.proofs.all_levels.Lts as lts
-use Rattle.levels.proofs.one_level.Reads as one-level-reads
 
 abbrev Inv-loop : tie.InvT-loop
 Inv-loop n darts h rows lambda delta table₀ words₀ top l₀ table words l = (l ≤ top) × (length table ≡ length table₀)

@@ -5,9 +5,6 @@ use lib.Seq.{length-take-le}
 use borrow.Author.Needs.{needs}
 use Rattle.levels.proofs.print_marked.Statement.{statement}
 use Rattle.levels.proofs.print_marked.Tie as tie
-use Rattle.levels.proofs.print_marked.Reads as reads
-use Rattle.levels.proofs.print_marked.Lts as lts
-use Rattle.levels.proofs.print_checked.Reads as print-checked-reads
 
 -- src/main.rt:71:46
 slice-aggregate-print-checked : tie.Need-slice-aggregate-print-checked

@@ -7,9 +7,6 @@ use lib.Seq.{length-take-le}
 use borrow.Author.Needs.{needs}
 use Rattle.levels.proofs.print_parts.Statement.{statement}
 use Rattle.levels.proofs.print_parts.Tie as tie
-use Rattle.levels.proofs.print_parts.Reads as reads
-use Rattle.levels.proofs.print_parts.Lts as lts
-use Rattle.levels.proofs.print_marked.Reads as print-marked-reads
 
 -- src/main.rt:59:17
 cast-size : tie.Need-cast-size

@@ -5,9 +5,6 @@ use Rattle.answers.specs.Numbers.{verdictOf}
 use borrow.Author.Needs.{needs}
 use Rattle.zompelgors.proofs.checked.Statement.{statement}
 use Rattle.zompelgors.proofs.checked.Tie as tie
-use Rattle.zompelgors.proofs.checked.Reads as reads
-use Rattle.zompelgors.proofs.checked.Lts as lts
-use Rattle.zompelgors.proofs.refused.Reads as refused-reads
 
 enum-told : tie.Need-enum-told
 enum-told c = search needs

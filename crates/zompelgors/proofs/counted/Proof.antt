@@ -5,9 +5,6 @@ use Rattle.zompelgors.specs.Flat.{countFor}
 use borrow.Author.Needs.{needs}
 use Rattle.zompelgors.proofs.counted.Statement.{statement}
 use Rattle.zompelgors.proofs.counted.Tie as tie
-use Rattle.zompelgors.proofs.counted.Reads as reads
-use Rattle.zompelgors.proofs.counted.Lts as lts
-use Rattle.zompelgors.proofs.uncounted.Reads as uncounted-reads
 
 enum-known-answer : tie.Need-enum-known-answer
 enum-known-answer c = search needs

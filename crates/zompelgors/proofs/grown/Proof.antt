@@ -5,9 +5,6 @@ use Rattle.zompelgors.specs.Flat.{heightFor}
 use borrow.Author.Needs.{needs}
 use Rattle.zompelgors.proofs.grown.Statement.{statement}
 use Rattle.zompelgors.proofs.grown.Tie as tie
-use Rattle.zompelgors.proofs.grown.Reads as reads
-use Rattle.zompelgors.proofs.grown.Lts as lts
-use Rattle.answers.proofs.numbers_of.Reads as numbers-of-reads
 
 enum-known-answer : tie.Need-enum-known-answer
 enum-known-answer c = search needs

@@ -2,8 +2,6 @@
 use borrow.Author.Tests.{eq-eqb, ne-eqb}
 use Rattle.zompelgors.proofs.is_unfolded.Statement.{statement}
 use Rattle.zompelgors.proofs.is_unfolded.Tie as tie
-use Rattle.zompelgors.proofs.is_unfolded.Reads as reads
-use Rattle.zompelgors.proofs.is_unfolded.Lts as lts
 
 returns : tie.Need-returns
 returns c = simp (eq-eqb _ _ (c .if1 .taken))

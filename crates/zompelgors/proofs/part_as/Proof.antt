@@ -8,10 +8,6 @@ use Rattle.zompelgors.specs.declared.ZgPart.{ZgPart}
 use borrow.Author.Needs.{needs}
 use Rattle.zompelgors.proofs.part_as.Statement.{statement}
 use Rattle.zompelgors.proofs.part_as.Tie as tie
-use Rattle.zompelgors.proofs.part_as.Reads as reads
-use Rattle.zompelgors.proofs.part_as.Lts as lts
-use Rattle.answers.proofs.numbers_of.Reads as numbers-of-reads
-use Rattle.zompelgors.proofs.is_unfolded.Reads as is-unfolded-reads
 
 enum-told : tie.Need-enum-told
 enum-told c = search needs

@@ -6,9 +6,6 @@ use Rattle.zompelgors.specs.Flat.{readingFor}
 use borrow.Author.Needs.{needs}
 use Rattle.zompelgors.proofs.read_as.Statement.{statement}
 use Rattle.zompelgors.proofs.read_as.Tie as tie
-use Rattle.zompelgors.proofs.read_as.Reads as reads
-use Rattle.zompelgors.proofs.read_as.Lts as lts
-use Rattle.answers.proofs.numbers_of.Reads as numbers-of-reads
 
 enum-known-answer : tie.Need-enum-known-answer
 enum-known-answer c = search needs

@@ -4,9 +4,6 @@ use Rattle.zompelgors.specs.Flat.{refusalFor}
 use borrow.Author.Needs.{needs}
 use Rattle.zompelgors.proofs.refused.Statement.{statement}
 use Rattle.zompelgors.proofs.refused.Tie as tie
-use Rattle.zompelgors.proofs.refused.Reads as reads
-use Rattle.zompelgors.proofs.refused.Lts as lts
-use Rattle.answers.proofs.numbers_of.Reads as numbers-of-reads
 
 numbers-of-requires : tie.Need-numbers-of-requires
 numbers-of-requires c κs = search needs

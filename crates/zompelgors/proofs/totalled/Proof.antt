@@ -5,9 +5,6 @@ use Rattle.zompelgors.specs.Flat.{countFor}
 use borrow.Author.Needs.{needs}
 use Rattle.zompelgors.proofs.totalled.Statement.{statement}
 use Rattle.zompelgors.proofs.totalled.Tie as tie
-use Rattle.zompelgors.proofs.totalled.Reads as reads
-use Rattle.zompelgors.proofs.totalled.Lts as lts
-use Rattle.zompelgors.proofs.uncounted.Reads as uncounted-reads
 
 enum-known-total : tie.Need-enum-known-total
 enum-known-total c = search needs

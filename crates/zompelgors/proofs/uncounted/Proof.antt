@@ -4,9 +4,6 @@ use Rattle.zompelgors.specs.Flat.{countFor}
 use borrow.Author.Needs.{needs}
 use Rattle.zompelgors.proofs.uncounted.Statement.{statement}
 use Rattle.zompelgors.proofs.uncounted.Tie as tie
-use Rattle.zompelgors.proofs.uncounted.Reads as reads
-use Rattle.zompelgors.proofs.uncounted.Lts as lts
-use Rattle.answers.proofs.numbers_of.Reads as numbers-of-reads
 
 numbers-of-requires : tie.Need-numbers-of-requires
 numbers-of-requires c κs = search needs

@@ -4,10 +4,6 @@ use Rattle.zompelgors.specs.Flat.{heightFor}
 use borrow.Author.Needs.{needs}
 use Rattle.zompelgors.proofs.zg_add.Statement.{statement}
 use Rattle.zompelgors.proofs.zg_add.Tie as tie
-use Rattle.zompelgors.proofs.zg_add.Reads as reads
-use Rattle.zompelgors.proofs.zg_add.Lts as lts
-use Rattle.checking.proofs.add.Reads as add-reads
-use Rattle.zompelgors.proofs.grown.Reads as grown-reads
 
 add-requires : tie.Need-add-requires
 add-requires c κs = search needs

@@ -4,10 +4,6 @@ use Rattle.zompelgors.specs.Flat.{refusalFor}
 use borrow.Author.Needs.{needs}
 use Rattle.zompelgors.proofs.zg_check.Statement.{statement}
 use Rattle.zompelgors.proofs.zg_check.Tie as tie
-use Rattle.zompelgors.proofs.zg_check.Reads as reads
-use Rattle.zompelgors.proofs.zg_check.Lts as lts
-use Rattle.checking.proofs.check.Reads as check-reads
-use Rattle.zompelgors.proofs.checked.Reads as checked-reads
 
 check-requires : tie.Need-check-requires
 check-requires c κs = search needs

@@ -4,10 +4,6 @@ use Rattle.zompelgors.specs.Flat.{refusalFor}
 use borrow.Author.Needs.{needs}
 use Rattle.zompelgors.proofs.zg_mark.Statement.{statement}
 use Rattle.zompelgors.proofs.zg_mark.Tie as tie
-use Rattle.zompelgors.proofs.zg_mark.Reads as reads
-use Rattle.zompelgors.proofs.zg_mark.Lts as lts
-use Rattle.cells.proofs.mark_cells.Reads as mark-cells-reads
-use Rattle.zompelgors.proofs.checked.Reads as checked-reads
 
 mark-cells-requires : tie.Need-mark-cells-requires
 mark-cells-requires c κs = search needs

@@ -4,10 +4,6 @@ use Rattle.zompelgors.specs.Flat.{refusalFor}
 use borrow.Author.Needs.{needs}
 use Rattle.zompelgors.proofs.zg_marks.Statement.{statement}
 use Rattle.zompelgors.proofs.zg_marks.Tie as tie
-use Rattle.zompelgors.proofs.zg_marks.Reads as reads
-use Rattle.zompelgors.proofs.zg_marks.Lts as lts
-use Rattle.rows.proofs.marks_of.Reads as marks-of-reads
-use Rattle.zompelgors.proofs.checked.Reads as checked-reads
 
 marks-of-requires : tie.Need-marks-of-requires
 marks-of-requires c κs = search needs

@@ -4,10 +4,6 @@ use Rattle.zompelgors.specs.Flat.{readingFor}
 use borrow.Author.Needs.{needs}
 use Rattle.zompelgors.proofs.zg_read.Statement.{statement}
 use Rattle.zompelgors.proofs.zg_read.Tie as tie
-use Rattle.zompelgors.proofs.zg_read.Reads as reads
-use Rattle.zompelgors.proofs.zg_read.Lts as lts
-use Rattle.reading.proofs.read.Reads as read-reads
-use Rattle.zompelgors.proofs.read_as.Reads as read-as-reads
 
 read-requires : tie.Need-read-requires
 read-requires c κs = search needs

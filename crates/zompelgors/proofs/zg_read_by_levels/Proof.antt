@@ -4,10 +4,6 @@ use Rattle.zompelgors.specs.Flat.{readingFor}
 use borrow.Author.Needs.{needs}
 use Rattle.zompelgors.proofs.zg_read_by_levels.Statement.{statement}
 use Rattle.zompelgors.proofs.zg_read_by_levels.Tie as tie
-use Rattle.zompelgors.proofs.zg_read_by_levels.Reads as reads
-use Rattle.zompelgors.proofs.zg_read_by_levels.Lts as lts
-use Rattle.levelwise.proofs.read_by_levels.Reads as read-by-levels-reads
-use Rattle.zompelgors.proofs.read_as.Reads as read-as-reads
 
 read-by-levels-requires : tie.Need-read-by-levels-requires
 read-by-levels-requires c κs = search needs

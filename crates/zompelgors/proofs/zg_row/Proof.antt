@@ -6,10 +6,6 @@ use Rattle.zompelgors.proofs.Accepted.{row-start}
 use borrow.Author.Needs.{needs}
 use Rattle.zompelgors.proofs.zg_row.Statement.{statement}
 use Rattle.zompelgors.proofs.zg_row.Tie as tie
-use Rattle.zompelgors.proofs.zg_row.Reads as reads
-use Rattle.zompelgors.proofs.zg_row.Lts as lts
-use Rattle.rows.proofs.row_refusal.Reads as row-refusal-reads
-use Rattle.zompelgors.proofs.part_as.Reads as part-as-reads
 
 row-refusal-requires : tie.Need-row-refusal-requires
 row-refusal-requires c κs = search needs

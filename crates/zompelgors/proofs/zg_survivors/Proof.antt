@@ -4,10 +4,6 @@ use Rattle.zompelgors.specs.Flat.{countFor}
 use borrow.Author.Needs.{needs}
 use Rattle.zompelgors.proofs.zg_survivors.Statement.{statement}
 use Rattle.zompelgors.proofs.zg_survivors.Tie as tie
-use Rattle.zompelgors.proofs.zg_survivors.Reads as reads
-use Rattle.zompelgors.proofs.zg_survivors.Lts as lts
-use Rattle.rows.proofs.survivors.Reads as survivors-reads
-use Rattle.zompelgors.proofs.counted.Reads as counted-reads
 
 survivors-requires : tie.Need-survivors-requires
 survivors-requires c κs = search needs

@@ -9,10 +9,6 @@ use Rattle.zompelgors.proofs.Accepted.{record-same}
 use borrow.Author.Needs.{needs}
 use Rattle.zompelgors.proofs.zg_take.Statement.{statement}
 use Rattle.zompelgors.proofs.zg_take.Tie as tie
-use Rattle.zompelgors.proofs.zg_take.Reads as reads
-use Rattle.zompelgors.proofs.zg_take.Lts as lts
-use Rattle.records.proofs.take.Reads as take-reads
-use Rattle.zompelgors.proofs.taken_as.Reads as taken-as-reads
 
 take-requires : tie.Need-take-requires
 take-requires c κs = search needs

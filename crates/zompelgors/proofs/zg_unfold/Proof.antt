@@ -4,10 +4,6 @@ use Rattle.zompelgors.specs.Flat.{countFor}
 use borrow.Author.Needs.{needs}
 use Rattle.zompelgors.proofs.zg_unfold.Statement.{statement}
 use Rattle.zompelgors.proofs.zg_unfold.Tie as tie
-use Rattle.zompelgors.proofs.zg_unfold.Reads as reads
-use Rattle.zompelgors.proofs.zg_unfold.Lts as lts
-use Rattle.reading.proofs.unfold.Reads as unfold-reads
-use Rattle.zompelgors.proofs.totalled.Reads as totalled-reads
 
 unfold-requires : tie.Need-unfold-requires
 unfold-requires c κs = search needs

@@ -3,7 +3,6 @@ use mathlib.Core.Path.{refl, sym, ap, _∙_}
 use Prim.Native.Nat.{_-_}
 use native.Mathlib.Omega.{arith}
 use lib.ListN.{getD-replicate}
-use denote.Ref.{now}
 use borrow.Author.Needs.{needs}
 use Rattle.answers.specs.Numbers.{verdictOf}
 use Rattle.checking.specs.Ready.{jointΛ, jointΔ}

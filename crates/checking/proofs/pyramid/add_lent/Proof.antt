@@ -8,9 +8,6 @@ use Rattle.checking.specs.Climb.{lentSizes}
 use Rattle.checking.proofs.AddCheck.{add-sizes, add-long, add-full, add-room}
 use Rattle.checking.proofs.pyramid.add_lent.Statement.{statement}
 use Rattle.checking.proofs.pyramid.add_lent.Tie as tie
-use Rattle.checking.proofs.pyramid.add_lent.Reads as reads
-use Rattle.checking.proofs.pyramid.add_lent.Lts as lts
-use Rattle.checking.proofs.pyramid.lent.Reads as lent-reads
 
 -- past the first test all but the mark row is as it must be
 sized : (c : tie.After-enum-told) → let a = c .before .before .before .before .before .before .before .before .args in lentSizes (a .n .0) (a .darts) (a .h .0) (now (a .rows)) (now (a .lambda)) (now (a .delta)) (now (a .table)) ≡ accepted

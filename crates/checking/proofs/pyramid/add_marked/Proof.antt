@@ -8,10 +8,6 @@ use Rattle.checking.specs.Climb.{baseAndMarks}
 use Rattle.checking.specs.Added.{rowMarks}
 use Rattle.checking.proofs.pyramid.add_marked.Statement.{statement}
 use Rattle.checking.proofs.pyramid.add_marked.Tie as tie
-use Rattle.checking.proofs.pyramid.add_marked.Reads as reads
-use Rattle.checking.proofs.pyramid.add_marked.Lts as lts
-use Rattle.checking.proofs.pyramid.base_and_marks.Reads as base-and-marks-reads
-use Rattle.checking.proofs.pyramid.row_checked.Reads as row-checked-reads
 
 base-and-marks-requires : tie.Need-base-and-marks-requires
 base-and-marks-requires c κs = search needs

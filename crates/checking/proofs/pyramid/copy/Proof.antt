@@ -11,8 +11,6 @@ use Rattle.maps.specs.Table.{each}
 use Rattle.facts.proofs.Tables.{set-below}
 use Rattle.checking.proofs.pyramid.copy.Statement.{statement}
 use Rattle.checking.proofs.pyramid.copy.Tie as tie
-use Rattle.checking.proofs.pyramid.copy.Reads as reads
-use Rattle.checking.proofs.pyramid.copy.Lts as lts
 
 abbrev Inv-loop : tie.InvT-loop
 Inv-loop rows table₀ k₀ k-end table k = (k ≤ length rows) × (length table ≡ length rows) × ((x : ℕ) → x < k → getD table x 0 ≡ each rows x)

@@ -2,8 +2,6 @@
 use borrow.Author.Tests.{lt-ltb, le-ltb}
 use Rattle.checking.proofs.pyramid.delta_after.Statement.{statement}
 use Rattle.checking.proofs.pyramid.delta_after.Tie as tie
-use Rattle.checking.proofs.pyramid.delta_after.Reads as reads
-use Rattle.checking.proofs.pyramid.delta_after.Lts as lts
 
 returns : tie.Need-returns
 returns c = let a = c .before .before .args in rw (lt-ltb (a .mark) (a .n .0) (c .if1 .taken))

@@ -12,10 +12,6 @@ use Rattle.maps.specs.Folded.{addΛ, addΔ}
 use Rattle.checking.proofs.AddRow.{RowTo, row-none, row-set, row-all}
 use Rattle.checking.proofs.pyramid.fold_in.Statement.{statement}
 use Rattle.checking.proofs.pyramid.fold_in.Tie as tie
-use Rattle.checking.proofs.pyramid.fold_in.Reads as reads
-use Rattle.checking.proofs.pyramid.fold_in.Lts as lts
-use Rattle.checking.proofs.pyramid.delta_after.Reads as delta-after-reads
-use Rattle.checking.proofs.pyramid.lambda_after.Reads as lambda-after-reads
 
 abbrev Inv-loop : tie.InvT-loop
 Inv-loop n darts h row lambda₀ delta₀ d₀ lambda delta d = (d ≤ darts) × RowTo (addΛ (n .0) (h .0) (each lambda₀) (each row)) d lambda₀ lambda × RowTo (addΔ (n .0) (each delta₀) (each row)) d delta₀ delta

@@ -14,9 +14,6 @@ use Rattle.answers.proofs.Refusals.{refused-then}
 use Rattle.checking.proofs.ClimbMarks.{lent-size}
 use Rattle.checking.proofs.pyramid.lent.Statement.{statement}
 use Rattle.checking.proofs.pyramid.lent.Tie as tie
-use Rattle.checking.proofs.pyramid.lent.Reads as reads
-use Rattle.checking.proofs.pyramid.lent.Lts as lts
-use Rattle.answers.proofs.sizes.Reads as sizes-reads
 
 -- after the first test the sizes are accepted
 accepted-sizes : (c : tie.After-enum-told) → let a = c .before .before .before .before .before .before .before .args in sizes (a .n .0) (a .darts) (a .h .0) ≡ accepted

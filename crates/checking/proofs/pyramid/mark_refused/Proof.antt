@@ -2,8 +2,6 @@
 use borrow.Author.Tests.{lt-ltb, le-ltb}
 use Rattle.checking.proofs.pyramid.mark_refused.Statement.{statement}
 use Rattle.checking.proofs.pyramid.mark_refused.Tie as tie
-use Rattle.checking.proofs.pyramid.mark_refused.Reads as reads
-use Rattle.checking.proofs.pyramid.mark_refused.Lts as lts
 
 returns : tie.Need-returns
 returns c = let a = c .before .before .before .before .args in rw (lt-ltb (a .mark) (a .n .0) (c .before .before .if1 .taken))

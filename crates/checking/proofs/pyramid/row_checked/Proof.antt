@@ -11,9 +11,6 @@ use Rattle.maps.specs.AddLevel.{refusedMark, atRow8}
 use Rattle.checking.proofs.ClimbMarks.{darts-none, darts-first}
 use Rattle.checking.proofs.pyramid.row_checked.Statement.{statement}
 use Rattle.checking.proofs.pyramid.row_checked.Tie as tie
-use Rattle.checking.proofs.pyramid.row_checked.Reads as reads
-use Rattle.checking.proofs.pyramid.row_checked.Lts as lts
-use Rattle.checking.proofs.pyramid.mark_refused.Reads as mark-refused-reads
 
 abbrev Inv-loop : tie.InvT-loop
 Inv-loop n darts h lambda row d₀ d = (d ≤ darts) × ((k : ℕ) → k < d → refusedMark (n .0) darts (h .0) [] lambda [] row [] k ≡ false)
