@@ -38,27 +38,7 @@ impl<'a> Pyramid<'a> {
 
     /// One neighbour on a level by the direct walk, on any tables, checked before or not.
     pub fn read(&self, level: Level, involution: Dimension, dart: u16) -> Result<Reading, Refusal> {
-        // Safety: every pointer comes from a slice with its own length.
-        let answer = unsafe {
-            raw::zg_read(
-                self.n.0,
-                self.darts,
-                self.h.0,
-                self.rows.as_ptr(),
-                self.rows.len(),
-                self.lambda.as_ptr(),
-                self.lambda.len(),
-                self.delta.as_ptr(),
-                self.delta.len(),
-                level.0,
-                involution.0,
-                dart,
-            )
-        };
-        answer.accepted().map(|r| Reading {
-            neighbour: r.neighbour,
-            count: r.count,
-        })
+        self.ask(raw::zg_read, level, involution, dart)
     }
 
     /// The same question answered level by level, each step a reading one level lower, down to the base.
@@ -68,9 +48,20 @@ impl<'a> Pyramid<'a> {
         involution: Dimension,
         dart: u16,
     ) -> Result<Reading, Refusal> {
+        self.ask(raw::zg_read_by_levels, level, involution, dart)
+    }
+
+    /// The question, put to one of the two readings.
+    fn ask(
+        &self,
+        reading: raw::ReadingFunction,
+        level: Level,
+        involution: Dimension,
+        dart: u16,
+    ) -> Result<Reading, Refusal> {
         // Safety: every pointer comes from a slice with its own length.
         let answer = unsafe {
-            raw::zg_read_by_levels(
+            reading(
                 self.n.0,
                 self.darts,
                 self.h.0,

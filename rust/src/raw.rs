@@ -32,6 +32,22 @@ answers! {
     ZgRecord { n: u8, h: u8, darts: u16 }
 }
 
+/// The type of both readings, [`zg_read`] and [`zg_read_by_levels`].
+pub type ReadingFunction = unsafe extern "C" fn(
+    n: u8,
+    darts: u16,
+    h: u8,
+    rows: *const u16,
+    rows_len: usize,
+    lambda: *const u8,
+    lambda_len: usize,
+    delta: *const u8,
+    delta_len: usize,
+    level: u8,
+    involution: u8,
+    dart: u16,
+) -> ZgReading;
+
 extern "C" {
     pub fn zg_check_base(n: u8, darts: u16, rows: *const u16, rows_len: usize) -> ZgRefusal;
 
