@@ -2,19 +2,23 @@
 use mathlib.Core.Path.{refl, sym, _∙_}
 use contract.Lifetimes.{Lfts}
 use denote.Ref.{now}
+use Rattle.zompelgors.proofs.zg_version.Reads as version
 use Rattle.zompelgors.proofs.zg_check_base.Reads as check-base
 use Rattle.zompelgors.proofs.zg_check.Reads as check
 use Rattle.zompelgors.proofs.zg_add.Reads as add
-use Rattle.zompelgors.proofs.zg_marks.Reads as marks
+use Rattle.zompelgors.proofs.zg_marks_of.Reads as marks-of
 use Rattle.zompelgors.proofs.zg_read.Reads as read
 use Rattle.zompelgors.proofs.zg_read_by_levels.Reads as by-levels
 use Rattle.zompelgors.proofs.zg_unfold.Reads as unfold-level
 use Rattle.zompelgors.proofs.zg_row.Reads as row
 use Rattle.zompelgors.proofs.zg_survivors.Reads as survivors
-use Rattle.zompelgors.proofs.zg_mark.Reads as mark
+use Rattle.zompelgors.proofs.zg_mark_cells.Reads as mark-cells
 use Rattle.zompelgors.proofs.zg_take.Reads as take
 use Rattle.outcomes.proofs.One.{OneOutcome, one-outcome, nothing, three, same-three}
 use Rattle.outcomes.proofs.Cells.{marking-same}
+
+pub zg-version-one : (κs : Lfts 0) → OneOutcome (version.Learnt κs) (λ r. r) nothing
+zg-version-one κs = one-outcome _ _ _ (λ a r. r) (λ r. r) (λ a r. refl) _ _ (λ a r s c. (c, refl))
 
 pub zg-check-base-one : (κs : Lfts 1) → OneOutcome (check-base.Learnt κs) (λ r. r) nothing
 zg-check-base-one κs = one-outcome _ _ _ (λ a r. r) (λ r. r) (λ a r. refl) _ _ (λ a r s c. (c, refl))
@@ -28,8 +32,8 @@ pub zg-add-one : (κs : Lfts 5) → OneOutcome (add.Learnt κs) (λ r. r) (λ s.
 zg-add-one κs = one-outcome _ _ _ (λ a r. r) (λ r. r) (λ a r. refl) _ _ (λ a r s c. (c .0, same-three (c .1 .0) (c .1 .1 .0) (c .1 .1 .1)))
 
 -- the mark row
-pub zg-marks-one : (κs : Lfts 3) → OneOutcome (marks.Learnt κs) (λ r. r) (λ s. now (s .1 .1 .1 .1 .1 .1 .0))
-zg-marks-one κs = one-outcome _ _ _ (λ a r. r) (λ r. r) (λ a r. refl) _ _ (λ a r s c. c)
+pub zg-marks-of-one : (κs : Lfts 3) → OneOutcome (marks-of.Learnt κs) (λ r. r) (λ s. now (s .1 .1 .1 .1 .1 .1 .0))
+zg-marks-of-one κs = one-outcome _ _ _ (λ a r. r) (λ r. r) (λ a r. refl) _ _ (λ a r s c. c)
 
 pub zg-read-one : (κs : Lfts 3) → OneOutcome (read.Learnt κs) (λ r. r) nothing
 zg-read-one κs = one-outcome _ _ _ (λ a r. r) (λ r. r) (λ a r. refl) _ _ (λ a r s c. (c, refl))
@@ -49,8 +53,8 @@ pub zg-survivors-one : (κs : Lfts 2) → OneOutcome (survivors.Learnt κs) (λ 
 zg-survivors-one κs = one-outcome _ _ _ (λ a r. r) (λ r. r) (λ a r. refl) _ _ (λ a r s c. c)
 
 -- the mark row
-pub zg-mark-one : (κs : Lfts 2) → OneOutcome (mark.Learnt κs) (λ r. r) (λ s. now (s .1 .1 .1 .1 .0))
-zg-mark-one κs a r r′ s s′ c c′ = (c .0 ∙ sym (c′ .0), marking-same (a .0) (a .1 .0) (now (a .1 .1 .0)) (a .1 .1 .1 .0) (now (a .1 .1 .1 .1 .0)) _ _ (c .1) (c′ .1))
+pub zg-mark-cells-one : (κs : Lfts 2) → OneOutcome (mark-cells.Learnt κs) (λ r. r) (λ s. now (s .1 .1 .1 .1 .0))
+zg-mark-cells-one κs a r r′ s s′ c c′ = (c .0 ∙ sym (c′ .0), marking-same (a .0) (a .1 .0) (now (a .1 .1 .0)) (a .1 .1 .1 .0) (now (a .1 .1 .1 .1 .0)) _ _ (c .1) (c′ .1))
 
 -- rows, Λ and Δ
 pub zg-take-one : (κs : Lfts 4) → OneOutcome (take.Learnt κs) (λ r. r) (λ s. three (now (s .1 .0)) (now (s .1 .1 .0)) (now (s .1 .1 .1 .0)))

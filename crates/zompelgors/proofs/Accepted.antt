@@ -1,17 +1,16 @@
--- What an accepted row tells, and what a refused record keeps. Assumes nothing.
-use mathlib.Core.Path.{_≡_, refl}
+-- What an accepted row tells. Assumes nothing.
+use mathlib.Core.Path.{_≡_}
 use mathlib.Core.Bool.{_&&_}
 use mathlib.Core.List.{List}
 use Prim.Native.Nat.{ℕ, suc, _*_, _≤_}
 use lib.Dec.{ltb}
 use borrow.Author.Tests.{ltb-false}
-use Rattle.maps.specs.Verdict.{Verdict, accepted, refused, ifAccepted, _then_}
+use Rattle.maps.specs.Verdict.{accepted, _then_}
 use Rattle.maps.specs.Sizes.{sizes, number4, number11, number13, hasLength}
 use Rattle.maps.specs.Row.{rowLent}
 use Rattle.facts.proofs.Tables.{table-size}
 use Rattle.facts.proofs.Verdicts.{then-accepted, when-accepted}
 use Rattle.facts.proofs.Sizes.{sizes-sized}
-use Rattle.zompelgors.specs.Flat.{recordFor}
 
 -- the start of an accepted row is a small number
 pub row-start : (n N h : ℕ) (base unfolded : List ℕ) (l i : ℕ) → rowLent n N h base unfolded l i ≡ accepted → i * N ≤ 16384
@@ -23,8 +22,3 @@ row-start n N h base unfolded l i e =
     let t = then-accepted (number11 h l i 0) (number13 n l i 0) (s .1) in
     let z = sizes-sized n N h (r .0) in
     table-size n N i (z .dimension) (z .darts) (ltb-false n i (when-accepted (ltb n i) 13 l i 0 (t .1))) .0
-
--- values that are 0 in a refusal give the same struct
-pub record-same : (v : Verdict) (n h N : ℕ) → recordFor v (ifAccepted v n 0) (ifAccepted v h 0) (ifAccepted v N 0) ≡ recordFor v n h N
-record-same accepted n h N = refl
-record-same (refused k l i d) n h N = refl

@@ -17,13 +17,13 @@ ghost use Rattle.maps.specs.Unfold.{unfoldLent, unfoldTotal, unfoldLeaves};
 ghost use Rattle.maps.specs.Row.{rowLent};
 ghost use Rattle.maps.specs.Survivors.{survivorsLent, survivorCount, survivorWords};
 ghost use Rattle.maps.specs.MarkCells.{markLent, MarkLeaves};
-ghost use Rattle.maps.specs.Record.{recordDimension, recordHeight, recordDarts, takeLent, takeRows, takeLambda, takeDelta};
+ghost use Rattle.maps.specs.Record.{takeRows, takeLambda, takeDelta};
 ghost use Rattle.answers.specs.Numbers.{refusalOf, verdictOf};
 ghost use Rattle.checking.specs.Answers.{addedOf, heightOf};
 ghost use Rattle.reading.specs.Answers.{valueOf, checkOf, totalOf};
 ghost use Rattle.rows.specs.Answers.{verdictOfSurvivors, countOfSurvivors};
-ghost use Rattle.records.specs.Answers.{takenOf};
-ghost use Rattle.zompelgors.specs.Flat.{refusalFor, readingFor, countFor, heightFor, partFor, recordFor};
+ghost use Rattle.records.specs.Answers.{takenOf, taken};
+ghost use Rattle.zompelgors.specs.Flat.{refusalFor, saidBy, readingFor, countFor, heightFor, partFor, recordFor, versionFor};
 
 // The document's number and values; all 0 where accepted.
 #[repr(C)]
@@ -37,10 +37,7 @@ pub struct ZgRefusal {
 // A neighbour with the count of base entries read.
 #[repr(C)]
 pub struct ZgReading {
-    pub number: u16,
-    pub level: u16,
-    pub involution: u16,
-    pub dart: u16,
+    pub refusal: ZgRefusal,
     pub count: u32,
     pub neighbour: u16,
 }
@@ -48,30 +45,21 @@ pub struct ZgReading {
 // The total count of an unfolding, or the survivor count.
 #[repr(C)]
 pub struct ZgCount {
-    pub number: u16,
-    pub level: u16,
-    pub involution: u16,
-    pub dart: u16,
+    pub refusal: ZgRefusal,
     pub count: u32,
 }
 
 // The height after a level is added; as given in a refusal.
 #[repr(C)]
 pub struct ZgHeight {
-    pub number: u16,
-    pub level: u16,
-    pub involution: u16,
-    pub dart: u16,
+    pub refusal: ZgRefusal,
     pub height: u8,
 }
 
 // Where a row lies: a part of the base rows (unfolded 0) or of the unfolded level (unfolded 1).
 #[repr(C)]
 pub struct ZgPart {
-    pub number: u16,
-    pub level: u16,
-    pub involution: u16,
-    pub dart: u16,
+    pub refusal: ZgRefusal,
     pub unfolded: u8,
     pub start: u16,
     pub length: u16,
@@ -80,18 +68,27 @@ pub struct ZgPart {
 // n, h and N of a record that is taken.
 #[repr(C)]
 pub struct ZgRecord {
-    pub number: u16,
-    pub level: u16,
-    pub involution: u16,
-    pub dart: u16,
+    pub refusal: ZgRefusal,
     pub n: u8,
     pub h: u8,
     pub darts: u16,
 }
 
+// No refusal.
+fn accepts() -> ZgRefusal
+    ensures { λ r. ⌜ r ≡ refusalFor accepted ⌝ }
+{
+    ZgRefusal {
+        number: 0,
+        level: 0,
+        involution: 0,
+        dart: 0,
+    }
+}
+
 // A refusal.
 fn refused(refusal: Refusal) -> ZgRefusal
-    ensures { λ r. ⌜ r ≡ refusalFor (refusalOf refusal) ⌝ }
+    ensures { λ r. ⌜ saidBy r ≡ refusalOf refusal ⌝ }
 {
     let x = answers::numbers_of(refusal);
     ZgRefusal {
@@ -107,12 +104,7 @@ fn checked(check: Check) -> ZgRefusal
     ensures { λ r. ⌜ r ≡ refusalFor (verdictOf check) ⌝ }
 {
     match check {
-        Check::Accepted => ZgRefusal {
-            number: 0,
-            level: 0,
-            involution: 0,
-            dart: 0,
-        },
+        Check::Accepted => accepts(),
         Check::Refused(r) => refused(r),
     }
 }
@@ -122,21 +114,18 @@ fn read_as(answer: reading::Reading) -> ZgReading
     ensures { λ r. ⌜ r ≡ readingFor (valueOf answer) ⌝ }
 {
     match answer {
-        reading::Reading::Found(neighbour, count) => ZgReading {
-            number: 0,
-            level: 0,
-            involution: 0,
-            dart: 0,
-            count,
-            neighbour,
-        },
-        reading::Reading::Refused(refusal) => {
-            let x = answers::numbers_of(refusal);
+        reading::Reading::Found(neighbour, count) => {
+            let refusal = accepts();
             ZgReading {
-                number: x.number,
-                level: x.level,
-                involution: x.involution,
-                dart: x.dart,
+                refusal,
+                count,
+                neighbour,
+            }
+        },
+        reading::Reading::Refused(why) => {
+            let refusal = refused(why);
+            ZgReading {
+                refusal,
                 count: 0,
                 neighbour: 0,
             }
@@ -144,18 +133,20 @@ fn read_as(answer: reading::Reading) -> ZgReading
     }
 }
 
-// A refusal with a count of 0.
-fn uncounted(refusal: Refusal) -> ZgCount
-    ensures { λ r. ⌜ r ≡ countFor (refusalOf refusal) 0 ⌝ }
+// An answer that is a count.
+fn counts(count: u32) -> ZgCount
+    ensures { λ r. ⌜ r ≡ countFor accepted count ⌝ }
 {
-    let x = answers::numbers_of(refusal);
-    ZgCount {
-        number: x.number,
-        level: x.level,
-        involution: x.involution,
-        dart: x.dart,
-        count: 0,
-    }
+    let refusal = accepts();
+    ZgCount { refusal, count }
+}
+
+// A refusal with a count of 0.
+fn uncounted(why: Refusal) -> ZgCount
+    ensures { λ r. ⌜ r ≡ countFor (refusalOf why) 0 ⌝ }
+{
+    let refusal = refused(why);
+    ZgCount { refusal, count: 0 }
 }
 
 // The answer of an unfolding.
@@ -163,14 +154,8 @@ fn totalled(total: reading::Total) -> ZgCount
     ensures { λ r. ⌜ r ≡ countFor (checkOf total) (totalOf total) ⌝ }
 {
     match total {
-        reading::Total::Counted(count) => ZgCount {
-            number: 0,
-            level: 0,
-            involution: 0,
-            dart: 0,
-            count,
-        },
-        reading::Total::Refused(refusal) => uncounted(refusal),
+        reading::Total::Counted(count) => counts(count),
+        reading::Total::Refused(why) => uncounted(why),
     }
 }
 
@@ -179,14 +164,8 @@ fn counted(answer: rows::Survivors) -> ZgCount
     ensures { λ r. ⌜ r ≡ countFor (verdictOfSurvivors answer) (countOfSurvivors answer) ⌝ }
 {
     match answer {
-        rows::Survivors::Counted(count) => ZgCount {
-            number: 0,
-            level: 0,
-            involution: 0,
-            dart: 0,
-            count,
-        },
-        rows::Survivors::Refused(refusal) => uncounted(refusal),
+        rows::Survivors::Counted(count) => counts(count),
+        rows::Survivors::Refused(why) => uncounted(why),
     }
 }
 
@@ -195,22 +174,16 @@ fn grown(h: u8, answer: checking::Added) -> ZgHeight
     ensures { λ r. ⌜ r ≡ heightFor (addedOf answer) (heightOf h answer) ⌝ }
 {
     match answer {
-        checking::Added::Grown(new) => ZgHeight {
-            number: 0,
-            level: 0,
-            involution: 0,
-            dart: 0,
-            height: new.0,
-        },
-        checking::Added::Refused(refusal) => {
-            let x = answers::numbers_of(refusal);
+        checking::Added::Grown(new) => {
+            let refusal = accepts();
             ZgHeight {
-                number: x.number,
-                level: x.level,
-                involution: x.involution,
-                dart: x.dart,
-                height: h,
+                refusal,
+                height: new.0,
             }
+        },
+        checking::Added::Refused(why) => {
+            let refusal = refused(why);
+            ZgHeight { refusal, height: h }
         },
     }
 }
@@ -232,25 +205,20 @@ fn part_as(check: Check, darts: u16, level: u8, involution: u8) -> ZgPart
 {
     match check {
         Check::Accepted => {
+            let refusal = accepts();
             let unfolded = is_unfolded(level);
             let start = involution as u16 * darts;
             ZgPart {
-                number: 0,
-                level: 0,
-                involution: 0,
-                dart: 0,
+                refusal,
                 unfolded,
                 start,
                 length: darts,
             }
         },
-        Check::Refused(refusal) => {
-            let x = answers::numbers_of(refusal);
+        Check::Refused(why) => {
+            let refusal = refused(why);
             ZgPart {
-                number: x.number,
-                level: x.level,
-                involution: x.involution,
-                dart: x.dart,
+                refusal,
                 unfolded: 0,
                 start: 0,
                 length: 0,
@@ -261,31 +229,36 @@ fn part_as(check: Check, darts: u16, level: u8, involution: u8) -> ZgPart
 
 // The answer of taking a record.
 fn taken_as(answer: records::Taken) -> ZgRecord
-    ensures { λ r. ⌜ r ≡ recordFor (takenOf answer .verdict) (takenOf answer .dimension) (takenOf answer .height) (takenOf answer .darts) ⌝ }
+    ensures { λ r. ⌜ r ≡ recordFor (takenOf answer) ⌝ }
 {
     match answer {
-        records::Taken::Record(n, h, darts) => ZgRecord {
-            number: 0,
-            level: 0,
-            involution: 0,
-            dart: 0,
-            n: n.0,
-            h: h.0,
-            darts,
-        },
-        records::Taken::Refused(refusal) => {
-            let x = answers::numbers_of(refusal);
+        records::Taken::Record(n, h, darts) => {
+            let refusal = accepts();
             ZgRecord {
-                number: x.number,
-                level: x.level,
-                involution: x.involution,
-                dart: x.dart,
+                refusal,
+                n: n.0,
+                h: h.0,
+                darts,
+            }
+        },
+        records::Taken::Refused(why) => {
+            let refusal = refused(why);
+            ZgRecord {
+                refusal,
                 n: 0,
                 h: 0,
                 darts: 0,
             }
         },
     }
+}
+
+// The version of this interface: 1.0.0.
+#[no_mangle]
+pub extern "C" fn zg_version() -> u32
+    ensures { λ r. ⌜ r ≡ versionFor 1 0 0 ⌝ }
+{
+    65536
 }
 
 // Checks a base.
@@ -338,7 +311,7 @@ pub extern "C" fn zg_add(
 
 // Reads the mark row of a level back.
 #[no_mangle]
-pub extern "C" fn zg_marks(
+pub extern "C" fn zg_marks_of(
     n: u8,
     darts: u16,
     h: u8,
@@ -482,7 +455,7 @@ pub extern "C" fn zg_survivors(
 
 // Marks the removable cells of one dimension on an explicit level.
 #[no_mangle]
-pub extern "C" fn zg_mark(
+pub extern "C" fn zg_mark_cells(
     n: u8,
     darts: u16,
     table: &[u16],
@@ -503,7 +476,7 @@ pub extern "C" fn zg_take(
     lambda: &mut [u8],
     delta: &mut [u8],
 ) -> ZgRecord
-    ensures { λ r. ⌜ r ≡ recordFor (takeLent (now (bytes .entry)) (now (rows .entry)) (now (lambda .entry)) (now (delta .entry))) (recordDimension (now (bytes .entry))) (recordHeight (now (bytes .entry))) (recordDarts (now (bytes .entry))) ⌝ }
+    ensures { λ r. ⌜ r ≡ recordFor (taken (now (bytes .entry)) (now (rows .entry)) (now (lambda .entry)) (now (delta .entry))) ⌝ }
     ensures { λ _. ⌜ now (rows .exit) ≡ takeRows (now (bytes .entry)) (now (rows .entry)) (now (lambda .entry)) (now (delta .entry)) ⌝ }
     ensures { λ _. ⌜ now (lambda .exit) ≡ takeLambda (now (bytes .entry)) (now (rows .entry)) (now (lambda .entry)) (now (delta .entry)) ⌝ }
     ensures { λ _. ⌜ now (delta .exit) ≡ takeDelta (now (bytes .entry)) (now (rows .entry)) (now (lambda .entry)) (now (delta .entry)) ⌝ }

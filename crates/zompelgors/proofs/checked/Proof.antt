@@ -9,6 +9,9 @@ use Rattle.zompelgors.proofs.checked.Tie as tie
 enum-told : tie.Need-enum-told
 enum-told c = search needs
 
+accepts-requires : tie.Need-accepts-requires
+accepts-requires c κs = search needs
+
 enum-known-check : tie.Need-enum-known-check
 enum-known-check c = search needs
 
@@ -16,10 +19,12 @@ refused-requires : tie.Need-refused-requires
 refused-requires c κs = search needs
 
 returns : tie.Need-returns
-returns c = sym (ap (λ x. refusalFor (verdictOf x)) (c .enum-told .given .1))
+returns c = c .accepts .ensures ∙ sym (ap (λ x. refusalFor (verdictOf x)) (c .before .enum-told .given .1))
 
 returns-2 : tie.Need-returns-2
-returns-2 c = c .refused .ensures ∙ sym (ap (λ x. refusalFor (verdictOf x)) (c .before .before .check .given .1))
+returns-2 c = ap refusalFor (c .refused .ensures ∙ sym (ap verdictOf (c .before .before .check .given .1)))
 
 pub checked-spec : {M : Type 1} → statement M
-checked-spec = tie.close (tie.spec enum-told enum-known-check refused-requires returns returns-2)
+checked-spec =
+    tie.close
+    (tie.spec enum-told accepts-requires enum-known-check refused-requires returns returns-2)

@@ -1,7 +1,10 @@
 -- `grown` meets its contract. Assumes nothing.
 use mathlib.Core.Path.{sym, ap, _∙_}
+use Prim.Native.Nat.{ℕ}
 use Rattle.checking.specs.Answers.{addedOf, heightOf}
 use Rattle.zompelgors.specs.Flat.{heightFor}
+use Rattle.zompelgors.specs.declared.ZgRefusal.{ZgRefusal}
+use Rattle.zompelgors.specs.declared.ZgHeight.{ZgHeight}
 use borrow.Author.Needs.{needs}
 use Rattle.zompelgors.proofs.grown.Statement.{statement}
 use Rattle.zompelgors.proofs.grown.Tie as tie
@@ -9,19 +12,26 @@ use Rattle.zompelgors.proofs.grown.Tie as tie
 enum-known-answer : tie.Need-enum-known-answer
 enum-known-answer c = search needs
 
+accepts-requires : tie.Need-accepts-requires
+accepts-requires c κs = search needs
+
 enum-known-answer-2 : tie.Need-enum-known-answer-2
 enum-known-answer-2 c = search needs
 
-numbers-of-requires : tie.Need-numbers-of-requires
-numbers-of-requires c κs = search needs
+refused-requires : tie.Need-refused-requires
+refused-requires c κs = search needs
 
 returns : tie.Need-returns
-returns c = sym (ap (λ x. heightFor (addedOf x) (heightOf (c .before .before .before .args .h) x)) (c .before .answer .given .1))
+returns c =
+    let of : ℕ → ZgRefusal → ZgHeight = λ height w. record { refusal = w; height = height } in
+    ap (of _) (c .accepts .ensures) ∙ sym (ap (λ x. heightFor (addedOf x) (heightOf (c .before .before .before .before .args .h) x)) (c .before .before .answer .given .1))
 
 returns-2 : tie.Need-returns-2
-returns-2 c = ap (λ v. heightFor v (c .before .before .before .before .args .h)) (c .numbers-of .ensures) ∙ sym (ap (λ x. heightFor (addedOf x) (heightOf (c .before .before .before .before .args .h) x)) (c .before .before .answer2 .given .1))
+returns-2 c =
+    let h = c .before .before .before .before .args .h in
+    ap (λ v. heightFor v h) (c .refused .ensures) ∙ sym (ap (λ x. heightFor (addedOf x) (heightOf h x)) (c .before .before .answer2 .given .1))
 
 pub grown-spec : {M : Type 1} → statement M
 grown-spec =
     tie.close
-    (tie.spec enum-known-answer enum-known-answer-2 numbers-of-requires returns returns-2)
+    (tie.spec enum-known-answer accepts-requires enum-known-answer-2 refused-requires returns returns-2)

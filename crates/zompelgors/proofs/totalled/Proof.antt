@@ -9,6 +9,9 @@ use Rattle.zompelgors.proofs.totalled.Tie as tie
 enum-known-total : tie.Need-enum-known-total
 enum-known-total c = search needs
 
+counts-requires : tie.Need-counts-requires
+counts-requires c κs = search needs
+
 enum-known-total-2 : tie.Need-enum-known-total-2
 enum-known-total-2 c = search needs
 
@@ -16,11 +19,12 @@ uncounted-requires : tie.Need-uncounted-requires
 uncounted-requires c κs = search needs
 
 returns : tie.Need-returns
-returns c = sym (ap (λ x. countFor (checkOf x) (totalOf x)) (c .before .total .given .1))
+returns c = c .counts .ensures ∙ sym (ap (λ x. countFor (checkOf x) (totalOf x)) (c .before .before .total .given .1))
 
 returns-2 : tie.Need-returns-2
 returns-2 c = c .uncounted .ensures ∙ sym (ap (λ x. countFor (checkOf x) (totalOf x)) (c .before .before .total2 .given .1))
 
 pub totalled-spec : {M : Type 1} → statement M
 totalled-spec =
-    tie.close (tie.spec enum-known-total enum-known-total-2 uncounted-requires returns returns-2)
+    tie.close
+    (tie.spec enum-known-total counts-requires enum-known-total-2 uncounted-requires returns returns-2)

@@ -5,11 +5,11 @@ use borrow.Author.Needs.{needs}
 use Rattle.zompelgors.proofs.uncounted.Statement.{statement}
 use Rattle.zompelgors.proofs.uncounted.Tie as tie
 
-numbers-of-requires : tie.Need-numbers-of-requires
-numbers-of-requires c κs = search needs
+refused-requires : tie.Need-refused-requires
+refused-requires c κs = search needs
 
 returns : tie.Need-returns
-returns c = ap (λ v. countFor v 0) (c .numbers-of .ensures)
+returns c = ap (λ v. countFor v 0) (c .refused .ensures)
 
 pub uncounted-spec : {M : Type 1} → statement M
-uncounted-spec = tie.close (tie.spec numbers-of-requires returns)
+uncounted-spec = tie.close (tie.spec refused-requires returns)

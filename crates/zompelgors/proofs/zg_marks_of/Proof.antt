@@ -1,9 +1,9 @@
--- `zg_marks` meets its contract: the job does, and its answer is flattened. Assumes nothing.
+-- `zg_marks_of` meets its contract: the job does, and its answer is flattened. Assumes nothing.
 use mathlib.Core.Path.{ap, _∙_}
 use Rattle.zompelgors.specs.Flat.{refusalFor}
 use borrow.Author.Needs.{needs}
-use Rattle.zompelgors.proofs.zg_marks.Statement.{statement}
-use Rattle.zompelgors.proofs.zg_marks.Tie as tie
+use Rattle.zompelgors.proofs.zg_marks_of.Statement.{statement}
+use Rattle.zompelgors.proofs.zg_marks_of.Tie as tie
 
 marks-of-requires : tie.Need-marks-of-requires
 marks-of-requires c κs = search needs
@@ -17,5 +17,5 @@ same-length c = search needs
 returns : tie.Need-returns
 returns c = let e = c .before .before .before .marks-of .ensures in (c .checked .ensures ∙ ap refusalFor (e .0), e .1)
 
-pub zg-marks-spec : {M : Type 1} → statement M
-zg-marks-spec = tie.close (tie.spec marks-of-requires checked-requires same-length returns)
+pub zg-marks-of-spec : {M : Type 1} → statement M
+zg-marks-of-spec = tie.close (tie.spec marks-of-requires checked-requires same-length returns)

@@ -1,9 +1,9 @@
--- `zg_mark` meets its contract: the job does, and its answer is flattened. Assumes nothing.
+-- `zg_mark_cells` meets its contract: the job does, and its answer is flattened. Assumes nothing.
 use mathlib.Core.Path.{ap, _∙_}
 use Rattle.zompelgors.specs.Flat.{refusalFor}
 use borrow.Author.Needs.{needs}
-use Rattle.zompelgors.proofs.zg_mark.Statement.{statement}
-use Rattle.zompelgors.proofs.zg_mark.Tie as tie
+use Rattle.zompelgors.proofs.zg_mark_cells.Statement.{statement}
+use Rattle.zompelgors.proofs.zg_mark_cells.Tie as tie
 
 mark-cells-requires : tie.Need-mark-cells-requires
 mark-cells-requires c κs = search needs
@@ -17,5 +17,5 @@ same-length c = search needs
 returns : tie.Need-returns
 returns c = let e = c .before .before .before .mark-cells .ensures in (c .checked .ensures ∙ ap refusalFor (e .0), e .1)
 
-pub zg-mark-spec : {M : Type 1} → statement M
-zg-mark-spec = tie.close (tie.spec mark-cells-requires checked-requires same-length returns)
+pub zg-mark-cells-spec : {M : Type 1} → statement M
+zg-mark-cells-spec = tie.close (tie.spec mark-cells-requires checked-requires same-length returns)
