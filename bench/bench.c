@@ -12,24 +12,24 @@ struct implementation {
     __typeof__(&plain_add) add;
     __typeof__(&plain_unfold) unfold;
     __typeof__(&plain_read) read, read_by_levels;
-    __typeof__(&plain_mark) mark;
+    __typeof__(&plain_mark_cells) mark;
     __typeof__(&plain_take) take;
     __typeof__(&plain_survivors) survivors;
 };
 
 static const struct implementation implementations[] = {
-    {"library", zg_check, zg_add, zg_unfold, zg_read, zg_read_by_levels, zg_mark, zg_take, zg_survivors},
-    {"c", plain_check, plain_add, plain_unfold, plain_read, plain_read_by_levels, plain_mark, plain_take,
+    {"library", zg_check, zg_add, zg_unfold, zg_read, zg_read_by_levels, zg_mark_cells, zg_take, zg_survivors},
+    {"c", plain_check, plain_add, plain_unfold, plain_read, plain_read_by_levels, plain_mark_cells, plain_take,
      plain_survivors},
-    {"skipping", plain_check, plain_add, plain_unfold, plain_read, plain_read_by_levels_skipping, plain_mark,
+    {"skipping", plain_check, plain_add, plain_unfold, plain_read, plain_read_by_levels_skipping, plain_mark_cells,
      plain_take, plain_survivors},
 };
 
 /* All that is lent. It is written once before anything is counted, so no page is touched for the first time then. */
 static struct pyramid map, lower, taken;
-static uint16_t table[MOST_ENTRIES], top[MOST_ENTRIES];
-static uint8_t marks[MOST_DARTS], kernel[MOST_DARTS], record[MOST_BYTES];
-static uint8_t lambda[MOST_DARTS], delta[MOST_DARTS];
+static uint16_t table[ZG_MOST_ENTRIES], top[ZG_MOST_ENTRIES];
+static uint8_t marks[ZG_MOST_DARTS], kernel[ZG_MOST_DARTS], record[ZG_MOST_RECORD];
+static uint8_t lambda[ZG_MOST_DARTS], delta[ZG_MOST_DARTS];
 static uint64_t words[64];
 static unsigned record_len;
 static size_t len; /* of rows and tables */
@@ -50,7 +50,7 @@ static void run_add(const struct implementation *by)
 {
     refusals += by->add(lower.n, lower.darts, lower.h, lower.rows, len, lower.lambda, lower.darts, lower.delta,
                         lower.darts, kernel, lower.darts, table, len)
-                    .number;
+                    .refusal.number;
 }
 
 /* Every level. */
@@ -58,7 +58,7 @@ static void run_unfold(const struct implementation *by)
 {
     for (unsigned l = 0; l <= map.h; l++) {
         zg_count r = by->unfold(PYRAMID, (uint8_t)l, table, len);
-        refusals += r.number;
+        refusals += r.refusal.number;
         reads += r.count;
     }
 }
@@ -71,7 +71,7 @@ static void run_readings(__typeof__(&plain_read) reading)
             for (unsigned d = (l + i) % 7; d < map.darts; d += 7)
                 if (map.lambda[d] >= l) {
                     zg_reading r = reading(PYRAMID, (uint8_t)l, (uint8_t)i, (uint16_t)d);
-                    refusals += r.number;
+                    refusals += r.refusal.number;
                     reads += r.count;
                 }
 }
@@ -90,16 +90,16 @@ static void run_mark(const struct implementation *by)
 
 static void run_take(const struct implementation *by)
 {
-    refusals += by->take(record, record_len, taken.rows, MOST_ENTRIES, taken.lambda, MOST_DARTS, taken.delta,
-                         MOST_DARTS)
-                    .number;
+    refusals += by->take(record, record_len, taken.rows, ZG_MOST_ENTRIES, taken.lambda, ZG_MOST_DARTS, taken.delta,
+                         ZG_MOST_DARTS)
+                    .refusal.number;
 }
 
 /* Every level. */
 static void run_survivors(const struct implementation *by)
 {
     for (unsigned l = 0; l <= map.h; l++)
-        refusals += by->survivors(map.darts, map.h, map.lambda, map.darts, (uint8_t)l, words, 64).number;
+        refusals += by->survivors(map.darts, map.h, map.lambda, map.darts, (uint8_t)l, words, 64).refusal.number;
 }
 
 struct job {
@@ -120,7 +120,7 @@ static void split_top(void)
     lower = map;
     lower.h--;
     for (unsigned d = 0; d < map.darts; d++) {
-        kernel[d] = lower.lambda[d] == lower.h ? lower.delta[d] : STAY;
+        kernel[d] = lower.lambda[d] == lower.h ? lower.delta[d] : ZG_STAY;
         if (lower.lambda[d] >= lower.h) {
             lower.lambda[d] = lower.h;
             lower.delta[d] = lower.n;
@@ -139,7 +139,7 @@ static void set_up(const char *name)
     len = (size_t)(map.n + 1) * map.darts;
     split_top();
     record_len = write_record(&map, record);
-    refusals += plain_unfold(PYRAMID, map.h, top, len).number;
+    refusals += plain_unfold(PYRAMID, map.h, top, len).refusal.number;
     memset(table, 0, sizeof table);
     memset(marks, 0, sizeof marks);
     memset(&taken, 0, sizeof taken);

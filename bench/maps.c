@@ -87,7 +87,7 @@ static unsigned cube_at(const struct form *f, const unsigned *at)
     return ((at[3] * f->size[2] + at[2]) * f->size[1] + at[1]) * f->size[0] + at[0];
 }
 
-/* Numbers the cubes that are there, the others have NONE. */
+/* Numbers the cubes that are there, the others have ZG_ABSENT. */
 static unsigned number_cubes(const struct form *f, uint16_t *number)
 {
     unsigned at[4], cubes = 0;
@@ -95,18 +95,18 @@ static unsigned number_cubes(const struct form *f, uint16_t *number)
         for (at[2] = 0; at[2] < f->size[2]; at[2]++)
             for (at[1] = 0; at[1] < f->size[1]; at[1]++)
                 for (at[0] = 0; at[0] < f->size[0]; at[0]++)
-                    number[cube_at(f, at)] = (uint16_t)(in_hole(f, at) ? NONE : cubes++);
+                    number[cube_at(f, at)] = (uint16_t)(in_hole(f, at) ? ZG_ABSENT : cubes++);
     return cubes;
 }
 
-/* The number of the cube beyond an axis, or NONE. */
+/* The number of the cube beyond an axis, or ZG_ABSENT. */
 static unsigned cube_beyond(const struct form *f, const uint16_t *number, unsigned cube, unsigned axis, int up)
 {
     unsigned at[4];
     for (unsigned k = 0, left = cube; k < 4; left /= f->size[k], k++)
         at[k] = left % f->size[k];
     if (at[axis] == (up ? f->size[axis] - 1 : 0))
-        return NONE;
+        return ZG_ABSENT;
     at[axis] = up ? at[axis] + 1 : at[axis] - 1;
     return number[cube_at(f, at)];
 }
@@ -121,26 +121,26 @@ static void link_cube(const struct form *f, const uint16_t *number, unsigned cub
         p->rows[d] = (uint16_t)(first + (corner ^ 1u << order_of[order][0]) * orders + order);
         for (unsigned i = 1; i < n; i++)
             p->rows[i * p->darts + d] = (uint16_t)(first + corner * orders + order_with_swap(n, order, i));
-        p->rows[n * p->darts + d] = (uint16_t)(beyond == NONE ? d : beyond * flags + across);
+        p->rows[n * p->darts + d] = (uint16_t)(beyond == ZG_ABSENT ? d : beyond * flags + across);
     }
 }
 
 static void make_grid(const struct form *f, struct pyramid *p)
 {
-    static uint16_t number[MOST_DARTS];
+    static uint16_t number[ZG_MOST_DARTS];
     list_orders(f->n);
     unsigned cubes = number_cubes(f, number), all = f->size[0] * f->size[1] * f->size[2] * f->size[3];
     p->n = (uint8_t)f->n;
     p->h = 0;
     p->darts = (uint16_t)(cubes * (orders << f->n));
     for (unsigned cube = 0; cube < all; cube++)
-        if (number[cube] != NONE)
+        if (number[cube] != ZG_ABSENT)
             link_cube(f, number, cube, p);
 }
 
 static void shuffle_darts(struct pyramid *p)
 {
-    static uint16_t name[MOST_DARTS], old[MOST_ENTRIES];
+    static uint16_t name[ZG_MOST_DARTS], old[ZG_MOST_ENTRIES];
     for (unsigned d = 0; d < p->darts; d++)
         name[d] = (uint16_t)d;
     for (unsigned k = p->darts; k > 1; k--) {
@@ -161,8 +161,8 @@ static void shuffle_darts(struct pyramid *p)
 static void mark_cell(const struct pyramid *p, const uint16_t *table, unsigned dimension, unsigned dart, uint8_t mark,
                       uint8_t *marks)
 {
-    static uint16_t open[MOST_DARTS];
-    static uint8_t met[MOST_DARTS];
+    static uint16_t open[ZG_MOST_DARTS];
+    static uint8_t met[ZG_MOST_DARTS];
     unsigned opens = 0, all = 1;
     memset(met, 0, sizeof met);
     open[0] = (uint16_t)dart;
@@ -185,11 +185,11 @@ static void choose_cells(const struct pyramid *p, const uint16_t *table, unsigne
 {
     const uint8_t taken = 254;
     size_t len = (size_t)(p->n + 1) * p->darts;
-    if (plain_mark(p->n, p->darts, table, len, (uint8_t)dimension, marks, p->darts).number)
+    if (plain_mark_cells(p->n, p->darts, table, len, (uint8_t)dimension, marks, p->darts).number)
         abort();
     for (unsigned d = 0; d < p->darts; d++)
         if (marks[d] == dimension)
-            mark_cell(p, table, dimension, d, random_below(100) < percent ? taken : STAY, marks);
+            mark_cell(p, table, dimension, d, random_below(100) < percent ? taken : ZG_STAY, marks);
     for (unsigned d = 0; d < p->darts; d++)
         if (marks[d] == taken)
             marks[d] = (uint8_t)dimension;
@@ -197,8 +197,8 @@ static void choose_cells(const struct pyramid *p, const uint16_t *table, unsigne
 
 static void add_levels(struct pyramid *p, unsigned levels, unsigned percent)
 {
-    static uint16_t table[MOST_ENTRIES];
-    static uint8_t marks[MOST_DARTS];
+    static uint16_t table[ZG_MOST_ENTRIES];
+    static uint8_t marks[ZG_MOST_DARTS];
     size_t len = (size_t)(p->n + 1) * p->darts;
     memset(p->lambda, 0, p->darts);
     memset(p->delta, p->n, p->darts);
@@ -207,7 +207,7 @@ static void add_levels(struct pyramid *p, unsigned levels, unsigned percent)
         choose_cells(p, table, p->n - 1u - p->h % p->n, percent, marks);
         zg_height r = plain_add(p->n, p->darts, p->h, p->rows, len, p->lambda, p->darts, p->delta, p->darts, marks,
                                 p->darts, table, len);
-        if (r.number)
+        if (r.refusal.number)
             abort();
         p->h = r.height;
     }

@@ -2,15 +2,14 @@
 #ifndef MAPS_H
 #define MAPS_H
 
-#include <stdint.h>
+#include "zompelgors.h"
 
-enum { MOST_DARTS = 4096, MOST_ENTRIES = 5 * MOST_DARTS, MOST_BYTES = 49180, NONE = 65535, STAY = 255 };
 
 struct pyramid {
     uint8_t n, h;
     uint16_t darts;
-    uint16_t rows[MOST_ENTRIES];
-    uint8_t lambda[MOST_DARTS], delta[MOST_DARTS];
+    uint16_t rows[ZG_MOST_ENTRIES];
+    uint8_t lambda[ZG_MOST_DARTS], delta[ZG_MOST_DARTS];
 };
 
 /* Makes the map of that name with its pyramid; returns 0 if there is none. */

@@ -1,4 +1,4 @@
-/* The jobs in plain C, written for speed: no intrinsics, no check beyond document 01's.
+/* The jobs in plain C, written for speed: no intrinsics, no check beyond those of docs/SCOPE.md.
  *
  * What is done for speed: numbers 5 (of a base) and 8 are first tested without a branch for each entry, which the
  * compiler turns into vector code, and the place is sought only if there is one; a pyramid's darts are sorted by kernel
@@ -8,8 +8,6 @@
 #include <stdbool.h>
 #include <string.h>
 
-enum { MOST_DARTS = 4096, NONE = 65535, STAY = 255 };
-
 #define RESULT(type, ...) ((type){__VA_ARGS__})
 #define UNLIKELY(x) __builtin_expect(x, 0)
 
@@ -18,10 +16,12 @@ static unsigned bad_size(unsigned n, unsigned darts, unsigned h)
 {
     if (n - 1 > 3)
         return 1;
-    if (darts - 1 > MOST_DARTS - 1)
+    if (darts - 1 > ZG_MOST_DARTS - 1)
         return 2;
     return h > 32 ? 3 : 0;
 }
+
+uint32_t plain_version(void) { return ZG_VERSION; }
 
 /* ---------------------------------------------------------------- numbers 5 to 8 */
 
@@ -147,13 +147,13 @@ static void remove_kernel(unsigned n, unsigned darts, uint16_t *table, const uin
     }
     for (unsigned i = 0; i <= n; i++)
         for (unsigned k = 0; k < size; k++)
-            table[i * darts + kernel[k]] = NONE;
+            table[i * darts + kernel[k]] = ZG_ABSENT;
 }
 
 /* Takes kernels 0 to h-1 in the table, which holds the base. */
 static zg_refusal climb(unsigned n, unsigned darts, unsigned h, const uint16_t *mark, uint16_t *table)
 {
-    uint16_t order[MOST_DARTS];
+    uint16_t order[ZG_MOST_DARTS];
     unsigned start[35];
     sort_by_kernel(darts, mark, order, start);
     for (unsigned k = 0; k < h; k++) {
@@ -195,7 +195,7 @@ zg_refusal plain_check(uint8_t n, uint16_t darts, uint8_t h, const uint16_t *row
     unsigned unfit = first_unfit(n, darts, h, lambda, delta);
     if (unfit < darts)
         return RESULT(zg_refusal, 8, 0, 0, unfit);
-    uint16_t mark[MOST_DARTS];
+    uint16_t mark[ZG_MOST_DARTS];
     memcpy(table, rows, len * sizeof *rows);
     join_marks(darts, lambda, delta, mark);
     return climb(n, darts, h, mark, table);
@@ -204,7 +204,7 @@ zg_refusal plain_check(uint8_t n, uint16_t darts, uint8_t h, const uint16_t *row
 static unsigned first_bad_mark(unsigned n, unsigned darts, unsigned h, const uint8_t *lambda, const uint8_t *marks)
 {
     unsigned d = 0;
-    while (d < darts && (marks[d] == STAY || (marks[d] < n && lambda[d] == h)))
+    while (d < darts && (marks[d] == ZG_STAY || (marks[d] < n && lambda[d] == h)))
         d++;
     return d;
 }
@@ -212,7 +212,7 @@ static unsigned first_bad_mark(unsigned n, unsigned darts, unsigned h, const uin
 static void raise_marks(unsigned darts, unsigned h, const uint8_t *marks, uint8_t *lambda, uint8_t *delta)
 {
     for (unsigned d = 0; d < darts; d++) {
-        bool stays = marks[d] == STAY;
+        bool stays = marks[d] == ZG_STAY;
         delta[d] = stays ? delta[d] : marks[d];
         lambda[d] = (uint8_t)(lambda[d] + (stays & (lambda[d] == h)));
     }
@@ -224,23 +224,23 @@ zg_height plain_add(uint8_t n, uint16_t darts, uint8_t h, const uint16_t *rows, 
 {
     unsigned bad = bad_size(n, darts, h);
     if (bad)
-        return RESULT(zg_height, bad, .height = h);
+        return RESULT(zg_height, {bad}, h);
     size_t len = (size_t)(n + 1) * darts;
     if (rows_len != len || lambda_len != darts || delta_len != darts || marks_len != darts || table_len != len)
-        return RESULT(zg_height, 4, .height = h);
+        return RESULT(zg_height, {4}, h);
     if (h == 32)
-        return RESULT(zg_height, 20, .height = h);
+        return RESULT(zg_height, {20}, h);
     zg_refusal r = check_rows(n, darts, rows);
     if (r.number)
-        return RESULT(zg_height, r.number, r.level, r.involution, r.dart, h);
+        return RESULT(zg_height, r, h);
     unsigned unfit = first_unfit(n, darts, h, lambda, delta);
     if (unfit < darts)
-        return RESULT(zg_height, 8, 0, 0, unfit, h);
+        return RESULT(zg_height, {8, 0, 0, unfit}, h);
     unsigned wrong = first_bad_mark(n, darts, h, lambda, marks);
     if (wrong < darts)
-        return RESULT(zg_height, 8, h, 0, wrong, h);
-    uint8_t new_lambda[MOST_DARTS], new_delta[MOST_DARTS];
-    uint16_t mark[MOST_DARTS];
+        return RESULT(zg_height, {8, h, 0, wrong}, h);
+    uint8_t new_lambda[ZG_MOST_DARTS], new_delta[ZG_MOST_DARTS];
+    uint16_t mark[ZG_MOST_DARTS];
     memcpy(new_lambda, lambda, darts);
     memcpy(new_delta, delta, darts);
     raise_marks(darts, h, marks, new_lambda, new_delta);
@@ -248,14 +248,14 @@ zg_height plain_add(uint8_t n, uint16_t darts, uint8_t h, const uint16_t *rows, 
     memcpy(table, rows, len * sizeof *rows);
     r = climb(n, darts, h + 1u, mark, table);
     if (r.number)
-        return RESULT(zg_height, r.number, r.level, r.involution, r.dart, h);
+        return RESULT(zg_height, r, h);
     memcpy(lambda, new_lambda, darts);
     memcpy(delta, new_delta, darts);
     return RESULT(zg_height, .height = (uint8_t)(h + 1));
 }
 
-zg_refusal plain_marks(uint8_t n, uint16_t darts, uint8_t h, const uint8_t *lambda, size_t lambda_len,
-                       const uint8_t *delta, size_t delta_len, uint8_t level, uint8_t *marks, size_t marks_len)
+zg_refusal plain_marks_of(uint8_t n, uint16_t darts, uint8_t h, const uint8_t *lambda, size_t lambda_len,
+                          const uint8_t *delta, size_t delta_len, uint8_t level, uint8_t *marks, size_t marks_len)
 {
     unsigned bad = bad_size(n, darts, h);
     if (bad)
@@ -268,7 +268,7 @@ zg_refusal plain_marks(uint8_t n, uint16_t darts, uint8_t h, const uint8_t *lamb
     if (unfit < darts)
         return RESULT(zg_refusal, 8, level, 0, unfit);
     for (unsigned d = 0; d < darts; d++)
-        marks[d] = lambda[d] == level && level < h ? delta[d] : STAY;
+        marks[d] = lambda[d] == level && level < h ? delta[d] : ZG_STAY;
     return RESULT(zg_refusal, 0);
 }
 
@@ -298,8 +298,8 @@ static unsigned bad_question(unsigned n, unsigned darts, unsigned h, size_t rows
 static zg_reading refuse_question(unsigned number, unsigned level, unsigned involution, unsigned dart)
 {
     if (number <= 4)
-        return RESULT(zg_reading, number);
-    return RESULT(zg_reading, number, level, involution, dart);
+        return RESULT(zg_reading, {number});
+    return RESULT(zg_reading, {number, level, involution, dart});
 }
 
 zg_reading plain_read(uint8_t n, uint16_t darts, uint8_t h, const uint16_t *rows, size_t rows_len,
@@ -313,12 +313,12 @@ zg_reading plain_read(uint8_t n, uint16_t darts, uint8_t h, const uint16_t *rows
     const uint16_t *row = rows + t * darts;
     for (unsigned reads = 1;; reads++) {
         if (reads > most)
-            return RESULT(zg_reading, 15, level, involution, dart);
+            return RESULT(zg_reading, {15, level, involution, dart});
         unsigned met = row[at];
         if (met >= darts)
-            return RESULT(zg_reading, 5, level, t, at);
+            return RESULT(zg_reading, {5, level, t, at});
         if (!marks_fit(n, h, lambda[met], delta[met]))
-            return RESULT(zg_reading, 8, level, t, met);
+            return RESULT(zg_reading, {8, level, t, met});
         if (lambda[met] >= level)
             return RESULT(zg_reading, .count = reads, .neighbour = (uint16_t)met);
         if (delta[met] == t) {
@@ -328,7 +328,7 @@ zg_reading plain_read(uint8_t n, uint16_t darts, uint8_t h, const uint16_t *rows
             t--;
             row -= darts;
         } else
-            return RESULT(zg_reading, 14, level, t, met);
+            return RESULT(zg_reading, {14, level, t, met});
         at = met;
     }
 }
@@ -342,31 +342,31 @@ struct question {
     zg_reading refused;
 };
 
-/* A base entry, or NONE if the reading is refused. */
+/* A base entry, or ZG_ABSENT if the reading is refused. */
 static unsigned read_base(struct question *q, unsigned i, unsigned from)
 {
     if (q->reads > 2 * q->darts) {
-        q->refused = RESULT(zg_reading, 15, q->level, q->involution, q->dart);
-        return NONE;
+        q->refused = RESULT(zg_reading, {15, q->level, q->involution, q->dart});
+        return ZG_ABSENT;
     }
     q->reads++;
     q->last_row = i;
     unsigned met = q->rows[i * q->darts + from];
     if (met >= q->darts) {
-        q->refused = RESULT(zg_reading, 5, q->level, i, from);
-        return NONE;
+        q->refused = RESULT(zg_reading, {5, q->level, i, from});
+        return ZG_ABSENT;
     }
     if (!marks_fit(q->n, q->h, q->lambda[met], q->delta[met])) {
-        q->refused = RESULT(zg_reading, 8, q->level, i, met);
-        return NONE;
+        q->refused = RESULT(zg_reading, {8, q->level, i, met});
+        return ZG_ABSENT;
     }
     return met;
 }
 
 static unsigned cannot_pass(struct question *q, unsigned met)
 {
-    q->refused = RESULT(zg_reading, 14, q->level, q->last_row, met);
-    return NONE;
+    q->refused = RESULT(zg_reading, {14, q->level, q->last_row, met});
+    return ZG_ABSENT;
 }
 
 /* The neighbour on level l by a walk over level l-1; each step is a reading one level lower. */
@@ -375,12 +375,12 @@ static unsigned read_level(struct question *q, unsigned l, unsigned i, unsigned 
     if (l == 0)
         return read_base(q, i, from);
     unsigned met = read_level(q, l - 1, i, from);
-    while (met != NONE && q->lambda[met] < l) {
+    while (met != ZG_ABSENT && q->lambda[met] < l) {
         if (q->lambda[met] != l - 1 || q->delta[met] != i)
             return cannot_pass(q, met);
         met = read_level(q, l - 1, i + 1, met);
-        if (met == NONE)
-            return NONE;
+        if (met == ZG_ABSENT)
+            return ZG_ABSENT;
         if (q->lambda[met] != l - 1 || q->delta[met] != i)
             return cannot_pass(q, met);
         met = read_level(q, l - 1, i, met);
@@ -392,13 +392,13 @@ static unsigned read_level(struct question *q, unsigned l, unsigned i, unsigned 
 static unsigned read_level_skipping(struct question *q, unsigned l, unsigned i, unsigned from)
 {
     unsigned met = read_base(q, i, from);
-    while (met != NONE && q->lambda[met] < l) {
+    while (met != ZG_ABSENT && q->lambda[met] < l) {
         unsigned k = q->lambda[met];
         if (q->delta[met] != i)
             return cannot_pass(q, met);
         met = read_level_skipping(q, k, i + 1, met);
-        if (met == NONE)
-            return NONE;
+        if (met == ZG_ABSENT)
+            return ZG_ABSENT;
         if (q->lambda[met] != k || q->delta[met] != i)
             return cannot_pass(q, met);
         met = read_level_skipping(q, k, i, met);
@@ -417,7 +417,7 @@ static zg_reading read_by(level_reader *reader, uint8_t n, uint16_t darts, uint8
         return refuse_question(bad, level, involution, dart);
     struct question q = {rows, lambda, delta, n, darts, h, level, involution, dart, 0, 0, {0}};
     unsigned met = reader(&q, level, involution, dart);
-    if (met == NONE)
+    if (met == ZG_ABSENT)
         return q.refused;
     return RESULT(zg_reading, .count = q.reads, .neighbour = (uint16_t)met);
 }
@@ -448,12 +448,12 @@ __attribute__((noinline)) static zg_count unfold_rows(unsigned n, unsigned darts
     unsigned total = 0;
     for (unsigned i = 0; i <= n; i++, rows += darts, table += darts)
         for (unsigned d = 0; d < darts; d++) {
-            unsigned met = NONE;
+            unsigned met = ZG_ABSENT;
             if (lambda[d] >= level) {
                 met = rows[d];
                 total++;
                 if (met >= darts)
-                    return RESULT(zg_count, 5, level, i, d);
+                    return RESULT(zg_count, {5, level, i, d});
                 if (lambda[met] < level) {
                     const uint16_t *row = rows;
                     unsigned t = i, left = 2 * darts;
@@ -466,13 +466,13 @@ __attribute__((noinline)) static zg_count unfold_rows(unsigned n, unsigned darts
                             t--;
                             row -= darts;
                         } else
-                            return RESULT(zg_count, 14, level, t, met);
+                            return RESULT(zg_count, {14, level, t, met});
                         if (left-- == 0)
-                            return RESULT(zg_count, 15, level, i, d);
+                            return RESULT(zg_count, {15, level, i, d});
                         met = row[from];
                         total++;
                         if (met >= darts)
-                            return RESULT(zg_count, 5, level, t, from);
+                            return RESULT(zg_count, {5, level, t, from});
                     } while (lambda[met] < level);
                 }
             }
@@ -487,17 +487,17 @@ zg_count plain_unfold(uint8_t n, uint16_t darts, uint8_t h, const uint16_t *rows
 {
     unsigned bad = bad_size(n, darts, h);
     if (bad)
-        return RESULT(zg_count, bad);
+        return RESULT(zg_count, {bad});
     size_t len = (size_t)(n + 1) * darts;
     if (rows_len != len || lambda_len != darts || delta_len != darts || table_len != len)
-        return RESULT(zg_count, 4);
+        return RESULT(zg_count, {4});
     if (level > h)
-        return RESULT(zg_count, 11, level);
+        return RESULT(zg_count, {11, level});
     unsigned unfit = first_unfit(n, darts, h, lambda, delta);
     if (unfit < darts)
-        return RESULT(zg_count, 8, level, 0, unfit);
+        return RESULT(zg_count, {8, level, 0, unfit});
     zg_count r = unfold_rows(n, darts, rows, lambda, delta, level, table);
-    if (r.number)
+    if (r.refusal.number)
         memset(table, 0xFF, len * sizeof *table);
     return r;
 }
@@ -508,14 +508,14 @@ zg_part plain_row(uint8_t n, uint16_t darts, uint8_t h, const uint16_t *base, si
     (void)base, (void)unfolded;
     unsigned bad = bad_size(n, darts, h);
     if (bad)
-        return RESULT(zg_part, bad);
+        return RESULT(zg_part, {bad});
     size_t len = (size_t)(n + 1) * darts;
     if (base_len != len || unfolded_len != len)
-        return RESULT(zg_part, 4);
+        return RESULT(zg_part, {4});
     if (level > h)
-        return RESULT(zg_part, 11, level, involution);
+        return RESULT(zg_part, {11, level, involution});
     if (involution > n)
-        return RESULT(zg_part, 13, level, involution);
+        return RESULT(zg_part, {13, level, involution});
     return RESULT(zg_part, .unfolded = level > 0, .start = (uint16_t)(involution * darts), .length = darts);
 }
 
@@ -524,17 +524,17 @@ zg_count plain_survivors(uint16_t darts, uint8_t h, const uint8_t *lambda, size_
 {
     unsigned bad = bad_size(1, darts, h);
     if (bad)
-        return RESULT(zg_count, bad);
+        return RESULT(zg_count, {bad});
     if (lambda_len != darts || words_len != 64)
-        return RESULT(zg_count, 4);
+        return RESULT(zg_count, {4});
     if (level > h)
-        return RESULT(zg_count, 11, level);
+        return RESULT(zg_count, {11, level});
     uint8_t most = 0;
     for (unsigned d = 0; d < darts; d++)
         most = lambda[d] > most ? lambda[d] : most;
     for (unsigned d = 0; most > h; d++)
         if (lambda[d] > h)
-            return RESULT(zg_count, 8, level, 0, d);
+            return RESULT(zg_count, {8, level, 0, d});
     unsigned count = 0;
     for (unsigned d = 0; d < darts; d++)
         count += lambda[d] >= level;
@@ -555,20 +555,20 @@ static zg_refusal check_level(unsigned n, unsigned darts, const uint16_t *table)
     for (unsigned i = 0; i <= n; i++) {
         const uint16_t *a = table + i * darts;
         for (unsigned d = 0; d < darts; d++)
-            if (table[d] == NONE ? a[d] != NONE : a[d] >= darts || table[a[d]] == NONE)
+            if (table[d] == ZG_ABSENT ? a[d] != ZG_ABSENT : a[d] >= darts || table[a[d]] == ZG_ABSENT)
                 return RESULT(zg_refusal, 5, 0, i, d);
     }
     for (unsigned i = 0; i <= n; i++) {
         const uint16_t *a = table + i * darts;
         for (unsigned d = 0; d < darts; d++)
-            if (a[d] != NONE && a[a[d]] != d)
+            if (a[d] != ZG_ABSENT && a[a[d]] != d)
                 return RESULT(zg_refusal, 6, 0, i, d);
     }
     for (unsigned i = 0; i + 2 <= n; i++)
         for (unsigned j = i + 2; j <= n; j++) {
             const uint16_t *a = table + i * darts, *b = table + j * darts;
             for (unsigned d = 0; d < darts; d++)
-                if (a[d] != NONE && b[a[d]] != a[b[d]])
+                if (a[d] != ZG_ABSENT && b[a[d]] != a[b[d]])
                     return RESULT(zg_refusal, 7, 0, i, d);
         }
     return RESULT(zg_refusal, 0);
@@ -578,24 +578,24 @@ static zg_refusal check_level(unsigned n, unsigned darts, const uint16_t *table)
 static void unmark_cell(unsigned n, unsigned darts, const uint16_t *table, unsigned dimension, unsigned failing,
                         uint8_t *marks)
 {
-    uint16_t open[MOST_DARTS];
+    uint16_t open[ZG_MOST_DARTS];
     unsigned opens = 1;
     open[0] = (uint16_t)failing;
-    marks[failing] = STAY;
+    marks[failing] = ZG_STAY;
     while (opens) {
         unsigned d = open[--opens];
         for (unsigned j = 0; j <= n; j++) {
             unsigned e = table[j * darts + d];
-            if (j != dimension && marks[e] != STAY) {
-                marks[e] = STAY;
+            if (j != dimension && marks[e] != ZG_STAY) {
+                marks[e] = ZG_STAY;
                 open[opens++] = (uint16_t)e;
             }
         }
     }
 }
 
-zg_refusal plain_mark(uint8_t n, uint16_t darts, const uint16_t *table, size_t table_len, uint8_t dimension,
-                      uint8_t *marks, size_t marks_len)
+zg_refusal plain_mark_cells(uint8_t n, uint16_t darts, const uint16_t *table, size_t table_len, uint8_t dimension,
+                            uint8_t *marks, size_t marks_len)
 {
     unsigned bad = bad_size(n, darts, 0);
     if (bad)
@@ -608,12 +608,12 @@ zg_refusal plain_mark(uint8_t n, uint16_t darts, const uint16_t *table, size_t t
     if (r.number)
         return r;
     for (unsigned d = 0; d < darts; d++)
-        marks[d] = table[d] == NONE ? STAY : dimension;
+        marks[d] = table[d] == ZG_ABSENT ? ZG_STAY : dimension;
     if (dimension + 2 > n)
         return r;
     const uint16_t *a = table + (dimension + 1) * darts, *b = a + darts;
     for (unsigned d = 0; d < darts; d++)
-        if (marks[d] != STAY && b[a[d]] != a[b[d]])
+        if (marks[d] != ZG_STAY && b[a[d]] != a[b[d]])
             unmark_cell(n, darts, table, dimension, d, marks);
     return r;
 }
@@ -655,24 +655,24 @@ zg_record plain_take(const uint8_t *bytes, size_t bytes_len, uint16_t *rows, siz
 {
     unsigned bad = bad_field(bytes, bytes_len, 0, 0x01, 4);
     if (bad)
-        return RESULT(zg_record, bad);
+        return RESULT(zg_record, {bad});
     unsigned n = bytes[3], h = bytes[4], darts = bytes[5] | bytes[6] << 8;
     bad = bad_size(n, darts, h);
     if (bad)
-        return RESULT(zg_record, bad);
+        return RESULT(zg_record, {bad});
     size_t at = 7;
     bool one_byte = darts <= 256 && bytes_len > at && bytes[at] == 0x20;
     unsigned tag = one_byte ? 0x20 : 0x10, length = one_byte ? darts : 2 * darts;
     for (unsigned i = 0; i <= n; i++, at += 3 + length)
         if ((bad = bad_field(bytes, bytes_len, at, tag + i, length)))
-            return RESULT(zg_record, bad, .dart = (uint16_t)at);
+            return RESULT(zg_record, {bad, .dart = (uint16_t)at});
     for (unsigned k = 0; k < 2; k++, at += 3 + darts)
         if ((bad = bad_field(bytes, bytes_len, at, 0x30 + k, darts)))
-            return RESULT(zg_record, bad, .dart = (uint16_t)at);
+            return RESULT(zg_record, {bad, .dart = (uint16_t)at});
     if (at != bytes_len)
-        return RESULT(zg_record, 19, .dart = (uint16_t)at);
+        return RESULT(zg_record, {19, .dart = (uint16_t)at});
     if (rows_len < (size_t)(n + 1) * darts || lambda_len < darts || delta_len < darts)
-        return RESULT(zg_record, 4);
+        return RESULT(zg_record, {4});
     for (unsigned i = 0; i <= n; i++)
         take_row(rows + i * darts, bytes + 10 + i * (3 + length), darts, one_byte);
     memcpy(lambda, bytes + at - 3 - 2 * darts, darts);

@@ -8,16 +8,17 @@
 extern "C" {
 #endif
 
+__typeof__(zg_version) plain_version;
 __typeof__(zg_check_base) plain_check_base;
 __typeof__(zg_check) plain_check;
 __typeof__(zg_add) plain_add;
-__typeof__(zg_marks) plain_marks;
+__typeof__(zg_marks_of) plain_marks_of;
 __typeof__(zg_read) plain_read;
 __typeof__(zg_read_by_levels) plain_read_by_levels;
 __typeof__(zg_unfold) plain_unfold;
 __typeof__(zg_row) plain_row;
 __typeof__(zg_survivors) plain_survivors;
-__typeof__(zg_mark) plain_mark;
+__typeof__(zg_mark_cells) plain_mark_cells;
 __typeof__(zg_take) plain_take;
 
 /* As plain_read_by_levels, but passing at once over the levels on which a step finds its dart unchanged. */

@@ -1,4 +1,5 @@
-/* The C interface to pyramids of generalized maps in folded form. */
+/* The C interface to pyramids of generalized maps in folded form. docs/SCOPE.md has the rules, docs/INTEGRATING.md the
+ * bytes to lend, the stack and the bounds on reads. */
 #ifndef ZOMPELGORS_H
 #define ZOMPELGORS_H
 
@@ -10,6 +11,25 @@ extern "C" {
 #endif
 
 /*
+ * The version of this header. zg_version() is that of the archive; a program that compares the two knows that they
+ * belong together. Names, the order of arguments and the first field of every answer stay. MAJOR rises when a function
+ * answers or is lent something else than before, MINOR when something is added, PATCH when neither is seen from here.
+ */
+#define ZG_VERSION_MAJOR 1
+#define ZG_VERSION_MINOR 0
+#define ZG_VERSION_PATCH 0
+#define ZG_VERSION (ZG_VERSION_MAJOR * 65536 + ZG_VERSION_MINOR * 256 + ZG_VERSION_PATCH)
+
+#define ZG_MOST_DIMENSION 4 /* n is 1 to 4 */
+#define ZG_MOST_DARTS 4096  /* N is 1 to 4,096 */
+#define ZG_MOST_LEVELS 32   /* h is 0 to 32: so many levels above the base */
+#define ZG_MOST_ENTRIES ((ZG_MOST_DIMENSION + 1) * ZG_MOST_DARTS) /* of rows, or of a table */
+#define ZG_MOST_RECORD 49180 /* bytes of the largest record */
+#define ZG_WORDS 64          /* survivor words */
+#define ZG_ABSENT 65535      /* every entry of a removed dart in an explicit level */
+#define ZG_STAY 255          /* in a mark row: the dart stays */
+
+/*
  * What is lent
  *
  *   n        dimension, 1 to 4
@@ -18,48 +38,114 @@ extern "C" {
  *   rows     the base: involutions a0 to an, row 0 first, (n+1)N entries
  *   lambda   for each dart the number of the kernel that removes it, h if none does: N entries
  *   delta    for each dart its dimension in that kernel, n if none removes it: N entries
- *   table    an explicit level, laid out as rows: (n+1)N entries; every entry of a removed dart is 65,535
- *   marks    a mark row, N entries: below n, remove with that dimension; 255, stay
- *   words    survivor words, 64 entries: dart d at bit d mod 64 of word d div 64
+ *   table    an explicit level, laid out as rows: (n+1)N entries; every entry of a removed dart is ZG_ABSENT
+ *   marks    a mark row, N entries: below n, remove with that dimension; ZG_STAY, stay
+ *   words    survivor words, ZG_WORDS entries: dart d at bit d mod 64 of word d div 64
  *
  * Every length is in entries, not bytes, and must be exact (zg_take alone takes longer ones). A pointer must be aligned
  * as its type asks and good for the length that is given with it, also where that length is wrong; at length 0 it must
- * still not be null, but any other address will do. Memory is lent for the call only; no pointer is kept. Memory that is
- * not const must not overlap any other memory lent to the same call; const memory may overlap const memory. What table,
- * marks and words held before is not read, unless the pointer is const.
+ * still not be null, but any other address will do. Memory is lent for the call only; no pointer is kept. Memory that
+ * is not const must not overlap any other memory lent to the same call; const memory may overlap const memory. What
+ * table, marks and words held before is not read, unless the pointer is const.
  *
  * Nothing is allocated and nothing is kept between calls, so calls may run at once on several threads where none writes
- * what another is lent. zg_check and zg_add take the most stack, about 17 KiB; docs/INTEGRATING.md has them all, with the
- * bytes to lend and the bounds on reads.
+ * what another is lent. zg_check and zg_add take the most stack, about 17 KiB.
  *
  * What is returned
  *
- * number is 0 (accepted, then level, involution and dart are 0 too) or a refusal:
- *
- *    1  n not 1..4                           11  level above h
- *    2  N not 1..4,096                       12  dart is N or more, or not on the level
- *    3  h above 32                           13  involution above n; for marking, dimension n or more
- *    4  a length is not exact                14  walk meets a removed dart that it can't pass
- *       (records: too short)                 15  walk needs more than 1 + 2N reads
- *    5  a neighbour is N or more             16  record ends early
- *       (explicit levels: or not present)    17  other tag than due
- *    6  an a_i twice isn't the identity      18  wrong length of a field
- *    7  a_i and a_j don't commute, j >= i+2  19  bytes after the record's end
- *    8  Lambda, Delta or mark not allowed    20  a level is added at h = 32
- *    9  kernel isn't whole cells
- *   10  cell not removable
- *
- * Each function tests its numbers in the order given with it; the first place found is the one reported. A field that
- * says nothing is 0; numbers 1 to 4 and 20 have all three 0. Counts, and whatever else is found, are 0 in a refusal
- * (a height alone is as given). Unless said otherwise, a refusal leaves everything lent as it was.
+ * Every answer begins with its refusal. Its number is ZG_ACCEPTED (then level, involution and dart are 0 too), or says
+ * why the call is refused. Each function tests its numbers in the order given with it; the first place found is the one
+ * reported. A field that says nothing is 0; numbers 1 to 4 and 20 have all three 0. Counts, and whatever else is found,
+ * are 0 in a refusal (a height alone is as given). Unless said otherwise, a refusal leaves everything lent as it was.
  */
 
-typedef struct { uint16_t number, level, involution, dart; } zg_refusal;                                        /* 0 0 0 0: accepted */
-typedef struct { uint16_t number, level, involution, dart; uint32_t count; uint16_t neighbour; } zg_reading;
-typedef struct { uint16_t number, level, involution, dart; uint32_t count; } zg_count;                          /* an unfolding's total; survivors */
-typedef struct { uint16_t number, level, involution, dart; uint8_t height; } zg_height;                         /* after an add; as given in a refusal */
-typedef struct { uint16_t number, level, involution, dart; uint8_t unfolded; uint16_t start, length; } zg_part; /* unfolded 0: a part of base, 1: of unfolded; 0 0 0 in a refusal */
-typedef struct { uint16_t number, level, involution, dart; uint8_t n, h; uint16_t darts; } zg_record;           /* 0 0 0 in a refusal */
+enum zg_number {
+    ZG_ACCEPTED = 0,
+    ZG_DIMENSION = 1,      /* n not 1..4 */
+    ZG_DARTS = 2,          /* N not 1..4,096 */
+    ZG_HEIGHT = 3,         /* h above 32 */
+    ZG_LENGTH = 4,         /* a length is not exact; records: too short */
+    ZG_STRAYS = 5,         /* a neighbour is N or more; explicit levels: or not present, or an absent dart has one */
+    ZG_NOT_TWICE = 6,      /* an a_i twice isn't the identity */
+    ZG_NOT_COMMUTING = 7,  /* a_i and a_j don't commute, j >= i+2 */
+    ZG_MARKS = 8,          /* Lambda, Delta or mark not allowed */
+    ZG_NOT_WHOLE = 9,      /* kernel isn't whole cells */
+    ZG_NOT_REMOVABLE = 10, /* cell not removable */
+    ZG_NO_LEVEL = 11,      /* level above h */
+    ZG_NO_DART = 12,       /* dart is N or more, or not on the level */
+    ZG_NO_INVOLUTION = 13, /* involution above n; for marking, dimension n or more */
+    ZG_NO_PASS = 14,       /* walk meets a removed dart that it can't pass */
+    ZG_TOO_LONG = 15,      /* walk needs more than 1 + 2N reads */
+    ZG_ENDS_EARLY = 16,    /* record ends early */
+    ZG_OTHER_TAG = 17,     /* other tag than due */
+    ZG_WRONG_LENGTH = 18,  /* wrong length of a field */
+    ZG_BYTES_AFTER = 19,   /* bytes after the record's end */
+    ZG_FULL = 20           /* a level is added at h = 32 */
+};
+
+typedef struct {
+    uint16_t number, level, involution, dart; /* of a record: dart is a byte offset */
+} zg_refusal;
+
+typedef struct {
+    zg_refusal refusal;
+    uint32_t count;     /* base entries read */
+    uint16_t neighbour;
+} zg_reading;
+
+typedef struct {
+    zg_refusal refusal;
+    uint32_t count; /* base entries read in all; or survivors */
+} zg_count;
+
+typedef struct {
+    zg_refusal refusal;
+    uint8_t height; /* after an add; as given in a refusal */
+} zg_height;
+
+typedef struct {
+    zg_refusal refusal;
+    uint8_t unfolded; /* 0: a part of base; 1: a part of unfolded */
+    uint16_t start, length;
+} zg_part;
+
+typedef struct {
+    zg_refusal refusal;
+    uint8_t n, h;
+    uint16_t darts;
+} zg_record;
+
+/* What a number says, in a phrase. */
+static inline const char *zg_refusal_text(uint16_t number)
+{
+    static const char *const texts[] = {
+        "accepted",
+        "the dimension is not 1 to 4",
+        "the number of darts is not 1 to 4096",
+        "the height is above 32",
+        "a length is not the one due",
+        "an entry names no dart that is there",
+        "an involution applied twice is not the identity",
+        "two involutions do not commute",
+        "a mark is not allowed",
+        "a kernel is not made of whole cells",
+        "a cell is not removable",
+        "the level asked is above the height",
+        "the dart asked is not on the level",
+        "the involution or dimension asked is too large",
+        "a walk meets a removed dart that it cannot pass",
+        "a walk needs more than 1 + 2N reads",
+        "the record ends early",
+        "the record has another tag than the one due",
+        "a field of the record has a wrong length",
+        "bytes follow the end of the record",
+        "a level is added at height 32"
+    };
+    return number < sizeof texts / sizeof texts[0] ? texts[number] : "no number of a refusal";
+}
+
+/* The version of the archive, made as ZG_VERSION is. */
+uint32_t zg_version(void);
 
 /*
  * Checks a base. Lent to read: rows, (n+1)N.
@@ -74,26 +160,31 @@ zg_refusal zg_check_base(uint8_t n, uint16_t darts, const uint16_t *rows, size_t
  * level, the involution that leaves the kernel, the dart) and 10 (the kernel's level, dimension + 1, the dart).
  * After 9 or 10 table holds the explicit level whose kernel failed; after any other number it is untouched.
  */
-zg_refusal zg_check(uint8_t n, uint16_t darts, uint8_t h, const uint16_t *rows, size_t rows_len, const uint8_t *lambda, size_t lambda_len, const uint8_t *delta, size_t delta_len, uint16_t *table, size_t table_len);
+zg_refusal zg_check(uint8_t n, uint16_t darts, uint8_t h, const uint16_t *rows, size_t rows_len,
+                    const uint8_t *lambda, size_t lambda_len, const uint8_t *delta, size_t delta_len,
+                    uint16_t *table, size_t table_len);
 
 /*
  * Adds a level on top: the same check, with marks as kernel h. Lent to read: rows, (n+1)N; marks, N (a dart not on
- * level h must have 255). Lent to change: lambda, N; delta, N. Lent to write: table, (n+1)N.
+ * level h must have ZG_STAY). Lent to change: lambda, N; delta, N. Lent to write: table, (n+1)N.
  * Accepted: height is h + 1; darts marked have Lambda = h and their mark as Delta, the other survivors Lambda = h + 1;
  * table holds the new top level.
  * Refused 1, 2, 3, 4, 20, 5, 6, 7, 8, 9, 10: as zg_check; 8 for lambda and delta (level 0) comes before 8 for marks
  * (level h). height is then h as given. After 9 or 10 table holds the explicit level whose kernel failed, which may be
  * any from 0 to h, and lambda and delta are untouched; after any other number nothing lent has changed.
  */
-zg_height zg_add(uint8_t n, uint16_t darts, uint8_t h, const uint16_t *rows, size_t rows_len, uint8_t *lambda, size_t lambda_len, uint8_t *delta, size_t delta_len, const uint8_t *marks, size_t marks_len, uint16_t *table, size_t table_len);
+zg_height zg_add(uint8_t n, uint16_t darts, uint8_t h, const uint16_t *rows, size_t rows_len,
+                 uint8_t *lambda, size_t lambda_len, uint8_t *delta, size_t delta_len,
+                 const uint8_t *marks, size_t marks_len, uint16_t *table, size_t table_len);
 
 /*
  * Reads the mark row of a level back out of Lambda and Delta. Lent to read: lambda, N; delta, N. Lent to write:
  * marks, N.
- * Accepted: marks hold Delta where Lambda is that level, else 255; for level h 255 throughout.
+ * Accepted: marks hold Delta where Lambda is that level, else ZG_STAY; for level h ZG_STAY throughout.
  * Refused 1, 2, 3, 4, 11 (the level asked), 8 (the level asked, 0, the dart).
  */
-zg_refusal zg_marks(uint8_t n, uint16_t darts, uint8_t h, const uint8_t *lambda, size_t lambda_len, const uint8_t *delta, size_t delta_len, uint8_t level, uint8_t *marks, size_t marks_len);
+zg_refusal zg_marks_of(uint8_t n, uint16_t darts, uint8_t h, const uint8_t *lambda, size_t lambda_len,
+                       const uint8_t *delta, size_t delta_len, uint8_t level, uint8_t *marks, size_t marks_len);
 
 /*
  * Reads one neighbour on a level by the direct walk, on any tables, checked before or not. Lent to read: rows,
@@ -103,7 +194,9 @@ zg_refusal zg_marks(uint8_t n, uint16_t darts, uint8_t h, const uint8_t *lambda,
  * level is the one asked. 11, 13, 12 and the start's 8 have the involution and the dart asked, so has 15; 5 has the
  * row read and the dart whose entry it is, 8 and 14 the row read last and the dart met.
  */
-zg_reading zg_read(uint8_t n, uint16_t darts, uint8_t h, const uint16_t *rows, size_t rows_len, const uint8_t *lambda, size_t lambda_len, const uint8_t *delta, size_t delta_len, uint8_t level, uint8_t involution, uint16_t dart);
+zg_reading zg_read(uint8_t n, uint16_t darts, uint8_t h, const uint16_t *rows, size_t rows_len,
+                   const uint8_t *lambda, size_t lambda_len, const uint8_t *delta, size_t delta_len,
+                   uint8_t level, uint8_t involution, uint16_t dart);
 
 /*
  * The same question answered level by level, each step a reading one level lower, down to the base. Lent, returned
@@ -111,7 +204,9 @@ zg_reading zg_read(uint8_t n, uint16_t darts, uint8_t h, const uint16_t *rows, s
  * level being read with the dimension of the row walked by. Where it isn't refused 14, all fields are those of zg_read.
  * It calls itself level + 1 deep.
  */
-zg_reading zg_read_by_levels(uint8_t n, uint16_t darts, uint8_t h, const uint16_t *rows, size_t rows_len, const uint8_t *lambda, size_t lambda_len, const uint8_t *delta, size_t delta_len, uint8_t level, uint8_t involution, uint16_t dart);
+zg_reading zg_read_by_levels(uint8_t n, uint16_t darts, uint8_t h, const uint16_t *rows, size_t rows_len,
+                             const uint8_t *lambda, size_t lambda_len, const uint8_t *delta, size_t delta_len,
+                             uint8_t level, uint8_t involution, uint16_t dart);
 
 /*
  * Unfolds a whole level by direct walks. Lent to read: rows, (n+1)N; lambda, N; delta, N. Lent to write: table,
@@ -119,9 +214,11 @@ zg_reading zg_read_by_levels(uint8_t n, uint16_t darts, uint8_t h, const uint16_
  * Accepted: table holds the explicit level; count is the total of its readings' counts.
  * Refused 1, 2, 3, 4, 11 (the level asked), 8 over all darts (the level asked, 0, the dart), then the walks, by
  * involution, then dart, each refused 15, 5, 14 as zg_read.
- * After 15, 5 or 14 table is 65,535 throughout; after any other number it is untouched.
+ * After 15, 5 or 14 table is ZG_ABSENT throughout; after any other number it is untouched.
  */
-zg_count zg_unfold(uint8_t n, uint16_t darts, uint8_t h, const uint16_t *rows, size_t rows_len, const uint8_t *lambda, size_t lambda_len, const uint8_t *delta, size_t delta_len, uint8_t level, uint16_t *table, size_t table_len);
+zg_count zg_unfold(uint8_t n, uint16_t darts, uint8_t h, const uint16_t *rows, size_t rows_len,
+                   const uint8_t *lambda, size_t lambda_len, const uint8_t *delta, size_t delta_len,
+                   uint8_t level, uint16_t *table, size_t table_len);
 
 /*
  * Says where a row of a level lies; no entry is read or copied. Lent: base, (n+1)N, the base rows; unfolded, (n+1)N,
@@ -130,33 +227,37 @@ zg_count zg_unfold(uint8_t n, uint16_t darts, uint8_t h, const uint16_t *rows, s
  * (unfolded 1, for any other level): start is involution times N, length N.
  * Refused 1, 2, 3, 4, 11, 13 (both with the level and the involution asked): an empty part of base, 0 0 0.
  */
-zg_part zg_row(uint8_t n, uint16_t darts, uint8_t h, const uint16_t *base, size_t base_len, const uint16_t *unfolded, size_t unfolded_len, uint8_t level, uint8_t involution);
+zg_part zg_row(uint8_t n, uint16_t darts, uint8_t h, const uint16_t *base, size_t base_len,
+               const uint16_t *unfolded, size_t unfolded_len, uint8_t level, uint8_t involution);
 
 /*
- * The survivor words of a level. Lent to read: lambda, N. Lent to write: words, 64.
+ * The survivor words of a level. Lent to read: lambda, N. Lent to write: words, ZG_WORDS.
  * Accepted: the bits of the darts with Lambda >= level are 1, all others 0; count is the number of ones.
  * Refused 2, 3, 4, 11 (the level asked), 8 (only Lambda > h: the level asked, 0, the dart).
  */
-zg_count zg_survivors(uint16_t darts, uint8_t h, const uint8_t *lambda, size_t lambda_len, uint8_t level, uint64_t *words, size_t words_len);
+zg_count zg_survivors(uint16_t darts, uint8_t h, const uint8_t *lambda, size_t lambda_len, uint8_t level,
+                      uint64_t *words, size_t words_len);
 
 /*
  * Marks the removable cells of one dimension on an explicit level. Lent to read: table, (n+1)N. Lent to write:
  * marks, N.
- * Accepted: the darts of every removable cell of that dimension have it as their mark, all others 255.
+ * Accepted: the darts of every removable cell of that dimension have it as their mark, all others ZG_STAY.
  * Refused 1, 2, 4, 13 (involution is the dimension asked), 5, 6, 7 (as zg_check_base, for darts that are present;
- * a dart is absent exactly where row 0 holds 65,535, and 5 also names an absent dart with another entry).
+ * a dart is absent exactly where row 0 holds ZG_ABSENT, and 5 also names an absent dart with another entry).
  */
-zg_refusal zg_mark(uint8_t n, uint16_t darts, const uint16_t *table, size_t table_len, uint8_t dimension, uint8_t *marks, size_t marks_len);
+zg_refusal zg_mark_cells(uint8_t n, uint16_t darts, const uint16_t *table, size_t table_len, uint8_t dimension,
+                         uint8_t *marks, size_t marks_len);
 
 /*
  * Takes a record into lent memory; its values are not checked (zg_check does that). Lent to read: bytes, the record,
- * of any length. Lent to write: rows, (n+1)N or more; lambda, N or more; delta, N or more. 20,480, 4,096 and 4,096
- * entries are enough for every record.
+ * of any length. Lent to write: rows, (n+1)N or more; lambda, N or more; delta, N or more. ZG_MOST_ENTRIES,
+ * ZG_MOST_DARTS and ZG_MOST_DARTS entries are enough for every record.
  * Accepted: n, h, darts, and the record's rows, Lambda and Delta at the front; the rest of a longer slice is untouched.
  * Refused 16, 17, 18 as the fields come (dart is the byte offset where the field starts), 1, 2, 3 after the header, 19
  * (dart is the offset of the first byte too many), 4.
  */
-zg_record zg_take(const uint8_t *bytes, size_t bytes_len, uint16_t *rows, size_t rows_len, uint8_t *lambda, size_t lambda_len, uint8_t *delta, size_t delta_len);
+zg_record zg_take(const uint8_t *bytes, size_t bytes_len, uint16_t *rows, size_t rows_len,
+                  uint8_t *lambda, size_t lambda_len, uint8_t *delta, size_t delta_len);
 
 #ifdef __cplusplus
 }

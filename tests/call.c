@@ -10,7 +10,7 @@
 #include <sys/mman.h>
 #include <unistd.h>
 
-enum { GUARD = 64, CANARY = 0xA5, MOST_DARTS = 4096, MOST_ENTRIES = 5 * MOST_DARTS };
+enum { GUARD = 64, CANARY = 0xA5 };
 
 const char *const job_names[JOBS] = {
     "check_base", "check", "add", "marks", "read", "bylevels", "unfold", "row", "survivors", "mark", "take", "levels"
@@ -126,14 +126,13 @@ static void take_back(const struct call *c)
     }
 }
 
-/* The structs returned have the same first four fields. */
-#define TAKE_REFUSAL(c, r) \
-    do { \
-        (c)->refusal[0] = (r).number; \
-        (c)->refusal[1] = (r).level; \
-        (c)->refusal[2] = (r).involution; \
-        (c)->refusal[3] = (r).dart; \
-    } while (0)
+static void take_refusal(struct call *c, zg_refusal r)
+{
+    c->refusal[0] = r.number;
+    c->refusal[1] = r.level;
+    c->refusal[2] = r.involution;
+    c->refusal[3] = r.dart;
+}
 
 static void take_found(struct call *c, unsigned founds, unsigned a, unsigned b, unsigned d)
 {
@@ -147,7 +146,7 @@ static void call_check_base(struct call *c)
 {
     const uint16_t *rows = rows_in(c);
     zg_refusal r = zg_check_base((uint8_t)c->n, (uint16_t)c->darts, rows, c->rows_len);
-    TAKE_REFUSAL(c, r);
+    take_refusal(c, r);
 }
 
 static void call_check(struct call *c)
@@ -157,7 +156,7 @@ static void call_check(struct call *c)
     uint16_t *table = table_out(c);
     zg_refusal r = zg_check((uint8_t)c->n, (uint16_t)c->darts, (uint8_t)c->h, rows, c->rows_len, lambda, c->lambda_len,
                             delta, c->delta_len, table, c->table_len);
-    TAKE_REFUSAL(c, r);
+    take_refusal(c, r);
 }
 
 static void call_add(struct call *c)
@@ -168,7 +167,7 @@ static void call_add(struct call *c)
     uint16_t *table = table_out(c);
     zg_height r = zg_add((uint8_t)c->n, (uint16_t)c->darts, (uint8_t)c->h, rows, c->rows_len, lambda, c->lambda_len,
                          delta, c->delta_len, marks, c->marks_len, table, c->table_len);
-    TAKE_REFUSAL(c, r);
+    take_refusal(c, r.refusal);
     take_found(c, 1, r.height, 0, 0);
 }
 
@@ -176,9 +175,9 @@ static void call_marks(struct call *c)
 {
     const uint8_t *lambda = lambda_in(c), *delta = delta_in(c);
     uint8_t *marks = marks_out(c);
-    zg_refusal r = zg_marks((uint8_t)c->n, (uint16_t)c->darts, (uint8_t)c->h, lambda, c->lambda_len, delta,
-                            c->delta_len, (uint8_t)c->level, marks, c->marks_len);
-    TAKE_REFUSAL(c, r);
+    zg_refusal r = zg_marks_of((uint8_t)c->n, (uint16_t)c->darts, (uint8_t)c->h, lambda, c->lambda_len, delta,
+                               c->delta_len, (uint8_t)c->level, marks, c->marks_len);
+    take_refusal(c, r);
 }
 
 static void call_reading(struct call *c)
@@ -188,7 +187,7 @@ static void call_reading(struct call *c)
     zg_reading r = (c->job == READ ? zg_read : zg_read_by_levels)(
         (uint8_t)c->n, (uint16_t)c->darts, (uint8_t)c->h, rows, c->rows_len, lambda, c->lambda_len, delta,
         c->delta_len, (uint8_t)c->level, (uint8_t)c->involution, (uint16_t)c->dart);
-    TAKE_REFUSAL(c, r);
+    take_refusal(c, r.refusal);
     take_found(c, 2, r.neighbour, r.count, 0);
 }
 
@@ -199,7 +198,7 @@ static void call_unfold(struct call *c)
     uint16_t *table = table_out(c);
     zg_count r = zg_unfold((uint8_t)c->n, (uint16_t)c->darts, (uint8_t)c->h, rows, c->rows_len, lambda, c->lambda_len,
                            delta, c->delta_len, (uint8_t)c->level, table, c->table_len);
-    TAKE_REFUSAL(c, r);
+    take_refusal(c, r.refusal);
     take_found(c, 1, r.count, 0, 0);
 }
 
@@ -208,7 +207,7 @@ static void call_row(struct call *c)
     const uint16_t *base = rows_in(c), *unfolded = table_in(c);
     zg_part r = zg_row((uint8_t)c->n, (uint16_t)c->darts, (uint8_t)c->h, base, c->rows_len, unfolded, c->table_len,
                        (uint8_t)c->level, (uint8_t)c->involution);
-    TAKE_REFUSAL(c, r);
+    take_refusal(c, r.refusal);
     take_found(c, 3, r.unfolded, r.start, r.length);
 }
 
@@ -218,7 +217,7 @@ static void call_survivors(struct call *c)
     uint64_t *words = words_out(c);
     zg_count r = zg_survivors((uint16_t)c->darts, (uint8_t)c->h, lambda, c->lambda_len, (uint8_t)c->level, words,
                               c->words_len);
-    TAKE_REFUSAL(c, r);
+    take_refusal(c, r.refusal);
     take_found(c, 1, r.count, 0, 0);
 }
 
@@ -226,9 +225,9 @@ static void call_mark(struct call *c)
 {
     const uint16_t *table = table_in(c);
     uint8_t *marks = marks_out(c);
-    zg_refusal r = zg_mark((uint8_t)c->n, (uint16_t)c->darts, table, c->table_len, (uint8_t)c->involution, marks,
-                           c->marks_len);
-    TAKE_REFUSAL(c, r);
+    zg_refusal r = zg_mark_cells((uint8_t)c->n, (uint16_t)c->darts, table, c->table_len, (uint8_t)c->involution,
+                                 marks, c->marks_len);
+    take_refusal(c, r);
 }
 
 static void call_take(struct call *c)
@@ -237,7 +236,7 @@ static void call_take(struct call *c)
     uint16_t *rows = rows_out(c);
     uint8_t *lambda = lambda_out(c), *delta = delta_out(c);
     zg_record r = zg_take(bytes, c->bytes_len, rows, c->rows_len, lambda, c->lambda_len, delta, c->delta_len);
-    TAKE_REFUSAL(c, r);
+    take_refusal(c, r.refusal);
     take_found(c, 3, r.n, r.h, r.darts);
 }
 
@@ -253,7 +252,7 @@ static bool say_refusal(struct call *levels, const struct call *step)
 /* One level's line; the number of survivors comes from the survivor words. */
 static bool say_level(struct call *levels, struct call *step, unsigned level)
 {
-    uint64_t words[64] = {0};
+    uint64_t words[ZG_WORDS] = {0};
     step->level = level;
     step->job = UNFOLD;
     call_job(step);
@@ -261,7 +260,7 @@ static bool say_level(struct call *levels, struct call *step, unsigned level)
         return false;
     unsigned total = step->found[0];
     step->words = words;
-    step->words_len = 64;
+    step->words_len = ZG_WORDS;
     step->job = SURVIVORS;
     call_job(step);
     if (say_refusal(levels, step))
@@ -273,11 +272,11 @@ static bool say_level(struct call *levels, struct call *step, unsigned level)
 /* What the program levels does with a record: take, check, then unfold each level. */
 static void call_levels(struct call *c)
 {
-    static uint16_t rows[MOST_ENTRIES], table[MOST_ENTRIES];
-    static uint8_t lambda[MOST_DARTS], delta[MOST_DARTS];
+    static uint16_t rows[ZG_MOST_ENTRIES], table[ZG_MOST_ENTRIES];
+    static uint8_t lambda[ZG_MOST_DARTS], delta[ZG_MOST_DARTS];
     struct call step = {.job = TAKE, .bytes = c->bytes, .bytes_len = c->bytes_len, .rows = rows, .table = table,
-                        .lambda = lambda, .delta = delta, .rows_len = MOST_ENTRIES, .lambda_len = MOST_DARTS,
-                        .delta_len = MOST_DARTS};
+                        .lambda = lambda, .delta = delta, .rows_len = ZG_MOST_ENTRIES,
+                        .lambda_len = ZG_MOST_DARTS, .delta_len = ZG_MOST_DARTS};
     call_job(&step);
     if (say_refusal(c, &step))
         return;

@@ -31,7 +31,7 @@ unsigned add_level(Pyramid& p, const Bytes& marks, Entries& table)
                                p.rows.size(), p.lambda.data(), p.lambda.size(), p.delta.data(), p.delta.size(),
                                marks.data(), marks.size(), table.data(), table.size());
     p.h = r.height;
-    return r.number;
+    return r.refusal.number;
 }
 
 unsigned check_pyramid(const Pyramid& p, Entries& table)
@@ -46,13 +46,13 @@ unsigned unfold_level(const Pyramid& p, unsigned level, Entries& table)
     return zg_unfold(std::uint8_t(p.n), std::uint16_t(p.darts), std::uint8_t(p.h), p.rows.data(), p.rows.size(),
                      p.lambda.data(), p.lambda.size(), p.delta.data(), p.delta.size(), std::uint8_t(level),
                      table.data(), table.size())
-        .number;
+        .refusal.number;
 }
 
 unsigned mark_cells(const Pyramid& p, const Entries& table, unsigned dimension, Bytes& marks)
 {
-    return zg_mark(std::uint8_t(p.n), std::uint16_t(p.darts), table.data(), table.size(), std::uint8_t(dimension),
-                   marks.data(), marks.size())
+    return zg_mark_cells(std::uint8_t(p.n), std::uint16_t(p.darts), table.data(), table.size(),
+                         std::uint8_t(dimension), marks.data(), marks.size())
         .number;
 }
 

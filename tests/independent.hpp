@@ -1,4 +1,4 @@
-// All jobs of document 01, written from its definitions on explicit maps, without regard to speed.
+// All jobs of docs/SCOPE.md, written from its definitions on explicit maps, without regard to speed.
 #ifndef INDEPENDENT_HPP
 #define INDEPENDENT_HPP
 

@@ -1,50 +1,57 @@
 #!/bin/bash
-# Compares the library with the vectors, with an independent implementation and with CGAL, runs the Rust tests, and holds
-# the pages of docs/ to the sources.
+# Compares the library with the vectors, with an independent implementation and with CGAL, builds and runs the examples,
+# runs the Rust tests, and holds the pages of docs/ to the sources. tests/README.md says what each part is.
 #
 #   LIB       the library, default target/staticlib/libzompelgors.a
 #   COUNT     random cases, default 1,000,000; SEED the first seed, default 1
 #   PYRAMIDS  pyramids compared with CGAL, default 5,000
 #   BUILD     where the programs are built, default target/tests
 #   EMULATE   set on x86-64 to do as on other machines: cross compiler and emulator
+#
+# A part whose tools are missing is left out by name. The last line counts the parts. The status is 0 if none failed, 1 if
+# one did, 2 if there is no library.
 set -u
 source "$(dirname "$0")/tools.sh"
 COUNT=${COUNT:-1000000} SEED=${SEED:-1} PYRAMIDS=${PYRAMIDS:-5000} BUILD=${BUILD:-target/tests}
+TARGET=x86_64-unknown-linux-gnu
 
-need "$CC" "${packages[0]}"
-need "$CXX" "${packages[1]}"
-need "$OBJCOPY" "${packages[2]}"
-need python3 python3
-[ ${#run[@]} -eq 0 ] || need "${run[0]}" qemu-user
-[ -f /usr/include/CGAL/Generalized_map.h ] || missing+=(libcgal-dev)
-stop_if_missing
+need_compiler
+need "${for_cxx[0]}" "$CXX" --version
+[ "$LIB" != c ] || need "$binutils" "$OBJCOPY" --version
+need python3 python3 --version
+need libcgal-dev test -f /usr/include/CGAL/Generalized_map.h
+need cargo cargo --version
+say_lacking
+if command -v rustc >/dev/null && [ ! -d "$(rustc --print target-libdir --target $TARGET)" ]; then
+    printf 'missing for Rust: the target %s\n    rustup target add %s\n' $TARGET $TARGET >&2
+    lacking+=("$TARGET")
+fi
 mkdir -p "$BUILD" || exit 2
 library "$BUILD"
 
+strict=(-Wall -Wextra -Wconversion -pedantic -Werror -Iinclude)
 # CGAL and Boost are headers alone; behind all others they serve the cross compiler too. GMP isn't needed for maps.
 cgalflags=(-DWITH_LIBRARY -DCGAL_DISABLE_GMP -idirafter /usr/include)
 
-build() {
-    "$CC" "${cflags[@]}" -O2 -c tests/call.c -o "$BUILD/call.o" &&
-    "$CC" "${cflags[@]}" -O2 "${static[@]}" tests/answer.c "$BUILD/call.o" "$LIB" -o "$BUILD/answer" &&
-    "$CXX" "${cxxflags[@]}" -O2 "${static[@]}" tests/compare.cpp "$BUILD/call.o" "$LIB" -o "$BUILD/compare" &&
-    "$CXX" "${cxxflags[@]}" "${cgalflags[@]}" -O2 "${static[@]}" tests/cgal.cpp "$LIB" -o "$BUILD/cgal"
+passed=0 failed=0
+
+# pass TITLE WHAT, fail TITLE WHAT: a part's line.
+pass() {
+    echo "$1: $2"
+    passed=$((passed + 1))
 }
-build || exit 2
+fail() {
+    echo "$1: FAILED, $2"
+    failed=$((failed + 1))
+}
 
-failed=0
-
-# vectors NAME TITLE COMMAND..: the command's output must be the answers; COMMAND gets the cases on standard input.
-folder=tests/vectors
-vectors() {
-    local name=$1 title=$2 cases=$folder/$1.cases answers=$folder/$1.answers out=$BUILD/$1.out
-    shift 2
-    if "$@" <"$cases" >"$out" && cmp -s "$out" "$answers"; then
-        echo "vectors $name, $title: $(wc -l <"$cases") cases, 0 differences"
-    else
-        echo "vectors $name, $title: FAILED, $(diff "$out" "$answers" | grep -c '^>') differences (see $out)"
-        failed=1
-    fi
+# built TITLE COMMAND..: whether the program of a part could be built.
+built() {
+    local title=$1
+    shift
+    "$@" && return
+    fail "$title" "it can't be built"
+    return 1
 }
 
 # report TITLE FILE COMMAND..: one line with the last one of its output, which goes to the file.
@@ -52,43 +59,128 @@ report() {
     local title=$1 file=$2
     shift 2
     if "$@" >"$file" 2>&1; then
-        echo "$title: $(tail -n 1 "$file")"
+        pass "$title" "$(tail -n 1 "$file")"
     else
-        echo "$title: FAILED: $(tail -n 1 "$file" | cut -c 1-200) (see $file)"
-        failed=1
+        fail "$title" "$(tail -n 1 "$file" | cut -c 1-200) (see $file)"
     fi
 }
 
-for name in small one two; do
-    vectors "$name" "library" "${run[@]}" "$BUILD/answer"
-    vectors "$name" "independent implementation" "${run[@]}" "$BUILD/compare" --vectors "tests/vectors/$name.cases"
-done
-for part in cases answers; do
-    python3 tests/prefixes.py "$part" >"$BUILD/prefixes.$part" || exit 2
-done
-folder=$BUILD vectors prefixes "library" "${run[@]}" "$BUILD/answer"
-report "random, large and damaged" "$BUILD/random.txt" "${run[@]}" "$BUILD/compare" --random "$SEED" "$COUNT"
-report "CGAL" "$BUILD/cgal.txt" "${run[@]}" "$BUILD/cgal" "$SEED" "$PYRAMIDS"
+# same TITLE FILE EXPECTED COMMAND..: what the command writes must be what the file EXPECTED holds.
+same() {
+    local title=$1 out=$2 expected=$3
+    shift 3
+    if "$@" >"$out" && cmp -s "$out" "$expected"; then
+        pass "$title" "$(wc -l <"$expected") lines, 0 differences"
+    else
+        fail "$title" "$(diff "$out" "$expected" | grep -c '^>') differences (see $out)"
+    fi
+}
 
-# rust_tests: the tests of rust/, all their results in one last line.
+# vectors FOLDER NAME TITLE COMMAND..: as same, with the cases on standard input.
+vectors() {
+    local folder=$1 name=$2 title=$3
+    shift 3
+    same "vectors $name, $title" "$BUILD/$name.out" "$folder/$name.answers" "$@" <"$folder/$name.cases"
+}
+
+# ---------------------------------------------------------------- the header
+
+if can "header as C99" "${for_c[@]}" &&
+    built "header as C99" "$CC" -std=c99 "${strict[@]}" tests/header.c "$LIB" -o "$BUILD/header_c"; then
+    report "header as C99" "$BUILD/header_c.txt" "${run[@]}" "$BUILD/header_c"
+fi
+if can "header as C++11" "${for_cxx[@]}" &&
+    built "header as C++11" "$CXX" -std=c++11 "${strict[@]}" -x c++ tests/header.c -x none "$LIB" -o "$BUILD/header_cxx"; then
+    report "header as C++11" "$BUILD/header_cxx.txt" "${run[@]}" "$BUILD/header_cxx"
+fi
+
+# ---------------------------------------------------------------- vectors
+
+build_call() { "$CC" "${cflags[@]}" -O2 -c tests/call.c -o "$BUILD/call.o"; }
+build_answer() { build_call && "$CC" "${cflags[@]}" -O2 tests/answer.c "$BUILD/call.o" "$LIB" -o "$BUILD/answer"; }
+build_compare() {
+    build_call && "$CXX" "${cxxflags[@]}" -O2 tests/compare.cpp "$BUILD/call.o" "$LIB" -o "$BUILD/compare"
+}
+
+if can "vectors, library" "${for_c[@]}" && built "vectors, library" build_answer; then
+    for name in small one two; do
+        vectors tests/vectors "$name" "library" "${run[@]}" "$BUILD/answer"
+    done
+    if can "vectors prefixes" python3; then
+        for part in cases answers; do
+            python3 tests/prefixes.py "$part" >"$BUILD/prefixes.$part"
+        done
+        vectors "$BUILD" prefixes "library" "${run[@]}" "$BUILD/answer"
+    fi
+fi
+
+# ---------------------------------------------------------------- the independent implementation, and CGAL
+
+if can "independent implementation" "${for_cxx[@]}" && built "independent implementation" build_compare; then
+    for name in small one two; do
+        vectors tests/vectors "$name" "independent implementation" "${run[@]}" "$BUILD/compare" --vectors "tests/vectors/$name.cases"
+    done
+    report "random, large and damaged" "$BUILD/random.txt" "${run[@]}" "$BUILD/compare" --random "$SEED" "$COUNT"
+fi
+if can "CGAL" "${for_cxx[@]}" libcgal-dev &&
+    built "CGAL" "$CXX" "${cxxflags[@]}" "${cgalflags[@]}" -O2 tests/cgal.cpp "$LIB" -o "$BUILD/cgal"; then
+    report "CGAL" "$BUILD/cgal.txt" "${run[@]}" "$BUILD/cgal" "$SEED" "$PYRAMIDS"
+fi
+
+# ---------------------------------------------------------------- examples, and the Rust binding
+
+# unfoldings COMMAND..: an example on a level of the star, on one that it hasn't, and on a record cut short.
+unfoldings() {
+    head -c 50 samples/star.record >"$BUILD/cut.record"
+    "$@" samples/star.record 1
+    "$@" samples/star.record 3
+    "$@" "$BUILD/cut.record" 1
+    return 0
+}
+if can "example in C" "${for_c[@]}" &&
+    built "example in C" "$CC" -std=c99 "${strict[@]}" -O2 examples/unfold.c "$LIB" -o "$BUILD/unfold"; then
+    same "example in C" "$BUILD/unfold.txt" examples/unfold.stdout unfoldings "${run[@]}" "$BUILD/unfold"
+fi
+
+# Rust programs are linked and run as the C ones are.
+cargo_for_library() {
+    local command=$1
+    shift
+    (
+        export ZOMPELGORS_LIB=$folder_of_library CARGO_TARGET_DIR=$cargo_target RUSTFLAGS="-D warnings"
+        export CARGO_TARGET_X86_64_UNKNOWN_LINUX_GNU_LINKER=$CC CARGO_TARGET_X86_64_UNKNOWN_LINUX_GNU_RUNNER="${run[*]}"
+        cd rust && cargo "$command" --offline --target $TARGET "$@"
+    )
+}
+# rust_tests: all their results in one last line.
 rust_tests() {
     local out=$BUILD/cargo.txt
-    (cd rust && ZOMPELGORS_LIB=$folder_of_library CARGO_TARGET_DIR=$cargo_target cargo test --offline) >"$out" 2>&1
+    cargo_for_library test >"$out" 2>&1
     local code=$?
     cat "$out"
     [ $code -ne 0 ] || awk '/^test result/ { p += $4; f += $6 } END { print p " passed, " f " failed" }' "$out"
     return $code
 }
 folder_of_library=$(cd "$(dirname "$LIB")" && pwd) cargo_target=$(cd "$BUILD" && pwd)/rust
-if ! command -v cargo >/dev/null; then
-    echo "Rust: not run, missing Debian package: cargo"
-elif [ ${#run[@]} -gt 0 ] || [ "${LIB##*/}" != libzompelgors.a ]; then
-    echo "Rust: not run, it links libzompelgors.a on x86-64 only"
-else
-    report "Rust" "$BUILD/rust.txt" rust_tests
+if [ "${LIB##*/}" != libzompelgors.a ]; then
+    echo "Rust: left out, it links libzompelgors.a alone"
+    left_out=$((left_out + 1))
+elif can "Rust" cargo "$TARGET" "${for_c[@]}"; then
+    report "Rust tests" "$BUILD/rust.txt" rust_tests
+    if built "example in Rust" cargo_for_library build -q --example unfold; then
+        same "example in Rust" "$BUILD/unfold_rust.txt" examples/unfold.stdout \
+            unfoldings "${run[@]}" "$cargo_target/$TARGET/debug/examples/unfold"
+    fi
 fi
-report "pages of docs/ against the sources" "$BUILD/pages.txt" python3 tests/pages.py
+
+if can "pages of docs/ against the sources" python3; then
+    report "pages of docs/ against the sources" "$BUILD/pages.txt" python3 tests/pages.py
+fi
+if [ -f "$BUILD/random.txt" ]; then
+    echo
+    echo "How often each number occurred in the random cases (0: accepted)"
+    grep -v '^case\|^independent\|^library' "$BUILD/random.txt" | sed '$d'
+fi
 echo
-echo "How often each number occurred in the random cases (0: accepted)"
-grep -v '^case\|^independent\|^library' "$BUILD/random.txt" | sed '$d'
-exit $failed
+echo "$passed parts passed, $failed failed, $left_out left out"
+[ $failed -eq 0 ]

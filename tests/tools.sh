@@ -6,41 +6,71 @@ root=$(cd "$(dirname "${BASH_SOURCE[0]}")/.." && pwd)
 cd "$root" || exit 2
 LIB=${LIB:-target/staticlib/libzompelgors.a}
 
+# for_c, for_cxx: the packages that it takes to build a program of that language and run it.
 if [ "$(uname -m)" = x86_64 ] && [ -z "${EMULATE:-}" ]; then
     CC=${CC:-gcc} CXX=${CXX:-g++} OBJCOPY=${OBJCOPY:-objcopy}
-    run=() static=()
-    packages=(gcc g++ binutils) libc=libc6-dev
+    run=()
+    for_c=(gcc libc6-dev) for_cxx=(g++) binutils=binutils
 else
     CC=${CC:-x86_64-linux-gnu-gcc} CXX=${CXX:-x86_64-linux-gnu-g++} OBJCOPY=${OBJCOPY:-x86_64-linux-gnu-objcopy}
-    run=(qemu-x86_64) static=(-static)
-    packages=(gcc-x86-64-linux-gnu g++-x86-64-linux-gnu binutils-x86-64-linux-gnu) libc=libc6-dev-amd64-cross
+    # Programs are dynamic: the cross libm.a names a file by a path that only an x86-64 machine has. The path keeps the
+    # loader and the C library of one kind where another x86-64 C library is installed too.
+    run=(qemu-x86_64 -L /usr/x86_64-linux-gnu -E LD_LIBRARY_PATH=/usr/x86_64-linux-gnu/lib)
+    for_c=(gcc-x86-64-linux-gnu libc6-dev-amd64-cross qemu-user) for_cxx=(g++-x86-64-linux-gnu)
+    binutils=binutils-x86-64-linux-gnu
 fi
+for_cxx+=("${for_c[@]}")
 cflags=(-std=c11 -Wall -Wextra -Wno-missing-field-initializers -Iinclude -Itests -Ibench)
 cxxflags=(-std=c++17 -Wall -Wextra -Iinclude -Itests)
 
-missing=()
+lacking=() left_out=0
 
-# need COMMAND PACKAGE: notes the package if the command isn't there.
+# need PACKAGE COMMAND..: notes the package if the command fails or isn't there.
 need() {
-    command -v "$1" >/dev/null || missing+=("$2")
+    local package=$1
+    shift
+    "$@" >/dev/null 2>&1 || lacking+=("$package")
 }
 
-# Says what is missing and ends; nothing is installed from here.
-stop_if_missing() {
-    if command -v "$CC" >/dev/null && ! echo 'int main(void) { return 0; }' | "$CC" -static -x c - -o /dev/null; then
-        missing+=("$libc")
-    fi
-    if [ ${#missing[@]} -gt 0 ]; then
-        echo "missing Debian packages: ${missing[*]}" >&2
-        exit 2
-    fi
+# What every program needs: a compiler, a C library to link, and on other machines an emulator.
+need_compiler() {
+    need "${for_c[0]}" "$CC" --version
+    command -v "$CC" >/dev/null && need "${for_c[1]}" links
+    [ ${#run[@]} -eq 0 ] || need qemu-user "${run[0]}" --version
+}
+
+links() {
+    local code=0 program
+    program=$(mktemp) || return 1
+    echo 'int main(void) { return 0; }' | "$CC" -x c - -o "$program" || code=1
+    rm -f "$program"
+    return $code
+}
+
+# Says at once all that is missing, with the line that installs it; nothing is installed from here.
+say_lacking() {
+    [ ${#lacking[@]} -gt 0 ] || return
+    printf 'missing Debian packages: %s\n    apt-get install %s\n' "${lacking[*]}" "${lacking[*]}" >&2
+}
+
+# can TITLE PACKAGE..: whether all packages of a part are here; if not, it is left out by name.
+can() {
+    local title=$1 package without=()
+    shift
+    for package; do
+        [[ " ${lacking[*]} " != *" $package "* ]] || without+=("$package")
+    done
+    [ ${#without[@]} -gt 0 ] || return 0
+    echo "$title: left out, it needs ${without[*]}"
+    left_out=$((left_out + 1))
+    return 1
 }
 
 # library DIRECTORY: makes sure that there is a library to link, and sets LIB to it.
 library() {
     if [ "$LIB" = c ]; then
         local job rename=(--redefine-sym plain_read_by_levels_skipping=zg_skipping)
-        for job in check_base check add marks read read_by_levels unfold row survivors mark take; do
+        for job in version check_base check add marks_of read read_by_levels unfold row survivors mark_cells take; do
             rename+=(--redefine-sym "plain_$job=zg_$job")
         done
         "$CC" "${cflags[@]}" -O3 -c bench/plain.c -o "$1/standin.o" || exit 2
@@ -48,7 +78,7 @@ library() {
         LIB=$1/standin.o
         echo "the plain C of bench/ stands in the library's place"
     elif [ ! -f "$LIB" ]; then
-        echo "no library: $LIB (set LIB)" >&2
+        echo "there is no $LIB: 'rt staticlib zompelgors' makes target/staticlib/libzompelgors.a (LIB names another)" >&2
         exit 2
     fi
 }

@@ -19,12 +19,49 @@ pub struct Refusal {
     pub dart: u16,
 }
 
+/// What each number says; the header's `zg_refusal_text` has the same phrases.
+const TEXTS: [&str; 21] = [
+    "accepted",
+    "the dimension is not 1 to 4",
+    "the number of darts is not 1 to 4096",
+    "the height is above 32",
+    "a length is not the one due",
+    "an entry names no dart that is there",
+    "an involution applied twice is not the identity",
+    "two involutions do not commute",
+    "a mark is not allowed",
+    "a kernel is not made of whole cells",
+    "a cell is not removable",
+    "the level asked is above the height",
+    "the dart asked is not on the level",
+    "the involution or dimension asked is too large",
+    "a walk meets a removed dart that it cannot pass",
+    "a walk needs more than 1 + 2N reads",
+    "the record ends early",
+    "the record has another tag than the one due",
+    "a field of the record has a wrong length",
+    "bytes follow the end of the record",
+    "a level is added at height 32",
+];
+
+impl Refusal {
+    /// What the number says, in a phrase.
+    pub fn text(&self) -> &'static str {
+        let text = TEXTS.get(usize::from(self.number));
+        text.copied().unwrap_or("no number of a refusal")
+    }
+}
+
 impl fmt::Display for Refusal {
     fn fmt(&self, to: &mut fmt::Formatter<'_>) -> fmt::Result {
         write!(
             to,
-            "refused {} {} {} {}",
-            self.number, self.level, self.involution, self.dart
+            "refused {} {} {} {}: {}",
+            self.number,
+            self.level,
+            self.involution,
+            self.dart,
+            self.text()
         )
     }
 }
@@ -46,25 +83,31 @@ pub struct Header {
     pub darts: u16,
 }
 
+impl raw::ZgRefusal {
+    pub(crate) fn accepted(self) -> Result<(), Refusal> {
+        match self.number {
+            0 => Ok(()),
+            number => Err(Refusal {
+                number,
+                level: self.level,
+                involution: self.involution,
+                dart: self.dart,
+            }),
+        }
+    }
+}
+
 macro_rules! accepted {
     ($($name:ident),*) => {
         $(
             impl raw::$name {
-                /// The answer itself where number is 0, else the refusal in it.
+                /// The answer itself, unless it begins with a refusal.
                 pub(crate) fn accepted(self) -> Result<Self, Refusal> {
-                    match self.number {
-                        0 => Ok(self),
-                        number => Err(Refusal {
-                            number,
-                            level: self.level,
-                            involution: self.involution,
-                            dart: self.dart,
-                        }),
-                    }
+                    self.refusal.accepted().map(|()| self)
                 }
             }
         )*
     };
 }
 
-accepted!(ZgRefusal, ZgReading, ZgCount, ZgHeight, ZgPart, ZgRecord);
+accepted!(ZgReading, ZgCount, ZgHeight, ZgPart, ZgRecord);

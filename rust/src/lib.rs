@@ -33,26 +33,46 @@
 #![deny(unsafe_op_in_unsafe_fn)]
 
 mod answers;
+mod owned;
 mod pyramid;
 pub mod raw;
 
 pub use answers::{Dimension, Header, Level, Reading, Refusal};
+pub use owned::PyramidBuf;
 pub use pyramid::Pyramid;
 
 /// In a mark row: the dart stays.
 pub const STAY: u8 = 255;
 
 /// Every entry of a removed dart in an explicit level.
-pub const NONE: u16 = 65_535;
+pub const ABSENT: u16 = 65_535;
+
+/// The largest N.
+pub const MOST_DARTS: usize = 4_096;
+
+/// The largest h: so many levels above the base.
+pub const MOST_LEVELS: usize = 32;
+
+/// The entries of the largest rows, or of the largest table.
+pub const MOST_ENTRIES: usize = 5 * MOST_DARTS;
+
+/// The bytes of the largest record.
+pub const MOST_RECORD: usize = 49_180;
 
 /// How many survivor words there are.
 pub const WORDS: usize = 64;
+
+/// The version of the library: 65,536 times its major number, 256 times its minor one, and its patch.
+pub fn version() -> u32 {
+    // Safety: it is lent nothing.
+    unsafe { raw::zg_version() }
+}
 
 /// Checks a base.
 pub fn check_base(n: Dimension, darts: u16, rows: &[u16]) -> Result<(), Refusal> {
     // Safety: the pointer comes from a slice with its length.
     let answer = unsafe { raw::zg_check_base(n.0, darts, rows.as_ptr(), rows.len()) };
-    answer.accepted().map(|_| ())
+    answer.accepted()
 }
 
 /// Adds a level on top, with the marks as kernel h: the new height. Λ and Δ grow with it, and the table holds the new
@@ -90,7 +110,7 @@ pub fn add(
 }
 
 /// Reads the mark row of a level back: Δ where Λ is that level, else [`STAY`]; for level h [`STAY`] throughout.
-pub fn marks(
+pub fn marks_of(
     n: Dimension,
     darts: u16,
     h: Level,
@@ -101,7 +121,7 @@ pub fn marks(
 ) -> Result<(), Refusal> {
     // Safety: every pointer comes from a slice with its own length, and only the exclusive one is written through.
     let answer = unsafe {
-        raw::zg_marks(
+        raw::zg_marks_of(
             n.0,
             darts,
             h.0,
@@ -114,7 +134,7 @@ pub fn marks(
             marks.len(),
         )
     };
-    answer.accepted().map(|_| ())
+    answer.accepted()
 }
 
 /// A row of a level: for level 0 a part of the base rows, for any other a part of the unfolded level, and no copy.
@@ -170,7 +190,7 @@ pub fn survivors(
 }
 
 /// Marks the removable cells of one dimension on an explicit level; all other darts get [`STAY`].
-pub fn mark(
+pub fn mark_cells(
     n: Dimension,
     darts: u16,
     table: &[u16],
@@ -179,7 +199,7 @@ pub fn mark(
 ) -> Result<(), Refusal> {
     // Safety: both pointers come from a slice with its own length, and only the exclusive one is written through.
     let answer = unsafe {
-        raw::zg_mark(
+        raw::zg_mark_cells(
             n.0,
             darts,
             table.as_ptr(),
@@ -189,7 +209,7 @@ pub fn mark(
             marks.len(),
         )
     };
-    answer.accepted().map(|_| ())
+    answer.accepted()
 }
 
 /// Takes a record to the front of lent slices; its values are not checked ([`Pyramid::check`] does that).

@@ -33,7 +33,7 @@ impl<'a> Pyramid<'a> {
                 table.len(),
             )
         };
-        answer.accepted().map(|_| ())
+        answer.accepted()
     }
 
     /// One neighbour on a level by the direct walk, on any tables, checked before or not.
@@ -104,9 +104,9 @@ impl<'a> Pyramid<'a> {
         answer.accepted().map(|r| r.count)
     }
 
-    /// The mark row of a level, read back: [`crate::marks`].
-    pub fn marks(&self, level: Level, marks: &mut [u8]) -> Result<(), Refusal> {
-        crate::marks(
+    /// The mark row of a level, read back: [`crate::marks_of`].
+    pub fn marks_of(&self, level: Level, marks: &mut [u8]) -> Result<(), Refusal> {
+        crate::marks_of(
             self.n,
             self.darts,
             self.h,

@@ -1,16 +1,23 @@
 //! The C interface as include/zompelgors.h declares it; what each function does and asks stands there.
 
+/// `zg_refusal`: all 0 where accepted.
+#[repr(C)]
+#[derive(Clone, Copy, Debug, Default)]
+pub struct ZgRefusal {
+    pub number: u16,
+    pub level: u16,
+    pub involution: u16,
+    pub dart: u16,
+}
+
 macro_rules! answers {
     ($($(#[$said:meta])* $name:ident { $($field:ident: $kind:ty),* })*) => {
         $(
             $(#[$said])*
             #[repr(C)]
-            #[derive(Clone, Copy, Debug)]
+            #[derive(Clone, Copy, Debug, Default)]
             pub struct $name {
-                pub number: u16,
-                pub level: u16,
-                pub involution: u16,
-                pub dart: u16,
+                pub refusal: ZgRefusal,
                 $(pub $field: $kind,)*
             }
         )*
@@ -18,8 +25,6 @@ macro_rules! answers {
 }
 
 answers! {
-    /// `zg_refusal`: all 0 where accepted.
-    ZgRefusal {}
     /// `zg_reading`
     ZgReading { count: u32, neighbour: u16 }
     /// `zg_count`: an unfolding's total; survivors.
@@ -49,6 +54,8 @@ pub type ReadingFunction = unsafe extern "C" fn(
 ) -> ZgReading;
 
 extern "C" {
+    pub fn zg_version() -> u32;
+
     pub fn zg_check_base(n: u8, darts: u16, rows: *const u16, rows_len: usize) -> ZgRefusal;
 
     pub fn zg_check(
@@ -81,7 +88,7 @@ extern "C" {
         table_len: usize,
     ) -> ZgHeight;
 
-    pub fn zg_marks(
+    pub fn zg_marks_of(
         n: u8,
         darts: u16,
         h: u8,
@@ -161,7 +168,7 @@ extern "C" {
         words_len: usize,
     ) -> ZgCount;
 
-    pub fn zg_mark(
+    pub fn zg_mark_cells(
         n: u8,
         darts: u16,
         table: *const u16,

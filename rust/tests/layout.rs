@@ -17,57 +17,32 @@ fn sizes_and_alignments() {
 }
 
 macro_rules! offset {
-    ($value:expr, $field:ident) => {
-        &$value.$field as *const _ as usize - &$value as *const _ as usize
-    };
+    ($name:ident, $field:ident) => {{
+        let value = $name::default();
+        &value.$field as *const _ as usize - &value as *const _ as usize
+    }};
 }
 
 #[test]
 fn offsets() {
-    let reading = ZgReading {
-        number: 0,
-        level: 0,
-        involution: 0,
-        dart: 0,
-        count: 0,
-        neighbour: 0,
-    };
-    assert_eq!(
-        [offset!(reading, count), offset!(reading, neighbour)],
-        [8, 12]
-    );
-    let part = ZgPart {
-        number: 0,
-        level: 0,
-        involution: 0,
-        dart: 0,
-        unfolded: 0,
-        start: 0,
-        length: 0,
-    };
-    assert_eq!(
-        [
-            offset!(part, unfolded),
-            offset!(part, start),
-            offset!(part, length)
-        ],
-        [8, 10, 12]
-    );
-    let record = ZgRecord {
-        number: 0,
-        level: 0,
-        involution: 0,
-        dart: 0,
-        n: 0,
-        h: 0,
-        darts: 0,
-    };
-    assert_eq!(
-        [
-            offset!(record, n),
-            offset!(record, h),
-            offset!(record, darts)
-        ],
-        [8, 9, 10]
-    );
+    assert_eq!(offset!(ZgRefusal, dart), 6);
+    assert_eq!(offset!(ZgReading, count), 8);
+    assert_eq!(offset!(ZgReading, neighbour), 12);
+    assert_eq!(offset!(ZgCount, count), 8);
+    assert_eq!(offset!(ZgHeight, height), 8);
+    assert_eq!(offset!(ZgPart, unfolded), 8);
+    assert_eq!(offset!(ZgPart, start), 10);
+    assert_eq!(offset!(ZgPart, length), 12);
+    assert_eq!(offset!(ZgRecord, n), 8);
+    assert_eq!(offset!(ZgRecord, h), 9);
+    assert_eq!(offset!(ZgRecord, darts), 10);
+}
+
+#[test]
+fn every_answer_begins_with_its_refusal() {
+    assert_eq!(offset!(ZgReading, refusal), 0);
+    assert_eq!(offset!(ZgCount, refusal), 0);
+    assert_eq!(offset!(ZgHeight, refusal), 0);
+    assert_eq!(offset!(ZgPart, refusal), 0);
+    assert_eq!(offset!(ZgRecord, refusal), 0);
 }

@@ -1,6 +1,6 @@
 //! Records taken through the binding: the star's, whole and cut short.
 use std::{fs, path::Path};
-use zompelgors::{take, Dimension, Header, Level, Pyramid, Refusal};
+use zompelgors::{take, Dimension, Header, Level, Pyramid, PyramidBuf, Refusal, MOST_RECORD};
 
 fn sample() -> Vec<u8> {
     let path = Path::new(env!("CARGO_MANIFEST_DIR")).join("../samples/star.record");
@@ -65,11 +65,52 @@ fn star_with_a_byte_too_many() {
     let mut bytes = sample();
     bytes.push(0);
     let refusal = take(&bytes, &mut [0; 36], &mut [0; 12], &mut [0; 12]).unwrap_err();
-    assert_eq!(refusal.to_string(), "refused 19 0 0 118");
+    assert_eq!(
+        refusal.to_string(),
+        "refused 19 0 0 118: bytes follow the end of the record"
+    );
 }
 
 #[test]
 fn lent_too_little() {
     let refusal = take(&sample(), &mut [0; 36], &mut [], &mut [0; 12]).unwrap_err();
-    assert_eq!(refusal.to_string(), "refused 4 0 0 0");
+    assert_eq!(
+        refusal.to_string(),
+        "refused 4 0 0 0: a length is not the one due"
+    );
+}
+
+#[test]
+fn star_owned() {
+    let star = PyramidBuf::from_record(&sample()).unwrap();
+    let mut table = vec![0; star.entries()];
+    assert_eq!((star.lend().darts, star.entries()), (12, 36));
+    assert_eq!(star.lend().check(&mut table), Ok(()));
+    assert_eq!(star.lend().unfold(Level(1), &mut table), Ok(28));
+}
+
+#[test]
+fn the_largest_record_owned() {
+    let field = |tag: u8, length: usize| vec![tag, length as u8, (length >> 8) as u8];
+    let mut bytes = [field(0x01, 4), vec![4, 0, 0, 16]].concat();
+    for row in 0..5 {
+        bytes.extend(field(0x10 + row, 8_192));
+        bytes.extend((0..4_096u16).flat_map(u16::to_le_bytes));
+    }
+    bytes.extend([field(0x30, 4_096), vec![0; 4_096]].concat());
+    bytes.extend([field(0x31, 4_096), vec![4; 4_096]].concat());
+    assert_eq!(bytes.len(), MOST_RECORD);
+    let free = PyramidBuf::from_record(&bytes).unwrap();
+    let mut table = vec![0; free.entries()];
+    assert_eq!(free.lend().check(&mut table), Ok(()));
+    assert_eq!(table, free.lend().rows);
+}
+
+#[test]
+fn a_record_refused() {
+    let refusal = PyramidBuf::from_record(&sample()[..50]).unwrap_err();
+    assert_eq!(
+        refusal.to_string(),
+        "refused 16 0 0 34: the record ends early"
+    );
 }

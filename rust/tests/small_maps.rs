@@ -1,7 +1,7 @@
-//! The scope document's small maps, read through the binding.
+//! The small maps of docs/SCOPE.md, read through the binding.
 use zompelgors::{
-    add, check_base, mark, row, survivors, Dimension, Level, Pyramid, Reading, Refusal, NONE, STAY,
-    WORDS,
+    add, check_base, mark_cells, row, survivors, Dimension, Level, Pyramid, PyramidBuf, Reading,
+    Refusal, ABSENT, STAY, WORDS,
 };
 
 const SQUARE: [u16; 16] = [1, 0, 3, 2, 5, 4, 7, 6, 7, 2, 1, 4, 3, 6, 5, 0];
@@ -27,12 +27,7 @@ fn reading(neighbour: u16, count: u32) -> Result<Reading, Refusal> {
 
 /// A map with the marks of its levels added one after the other.
 struct Grown {
-    n: Dimension,
-    darts: u16,
-    h: Level,
-    rows: Vec<u16>,
-    lambda: Vec<u8>,
-    delta: Vec<u8>,
+    pyramid: PyramidBuf,
     table: Vec<u16>,
 }
 
@@ -40,59 +35,33 @@ impl Grown {
     fn new(n: u8, rows: &[u16]) -> Grown {
         let darts = rows.len() / (usize::from(n) + 1);
         Grown {
-            n: Dimension(n),
-            darts: darts as u16,
-            h: Level(0),
-            rows: rows.to_vec(),
-            lambda: vec![0; darts],
-            delta: vec![n; darts],
+            pyramid: PyramidBuf::from_base(Dimension(n), darts as u16, rows.to_vec()).unwrap(),
             table: vec![0; rows.len()],
         }
     }
 
-    fn add(&mut self, dimension: Dimension, removed: &[usize]) -> Result<(), Refusal> {
-        let mut marks = vec![STAY; usize::from(self.darts)];
+    fn add(&mut self, dimension: Dimension, removed: &[usize]) -> Result<Level, Refusal> {
+        let mut marks = vec![STAY; usize::from(self.lend().darts)];
         for &dart in removed {
             marks[dart] = dimension.0;
         }
-        self.h = add(
-            self.n,
-            self.darts,
-            self.h,
-            &self.rows,
-            &mut self.lambda,
-            &mut self.delta,
-            &marks,
-            &mut self.table,
-        )?;
-        Ok(())
+        self.pyramid.add(&marks, &mut self.table)
     }
 
-    fn pyramid(&self) -> Pyramid<'_> {
-        let Grown { n, darts, h, .. } = *self;
-        Pyramid {
-            n,
-            darts,
-            h,
-            rows: &self.rows,
-            lambda: &self.lambda,
-            delta: &self.delta,
-        }
+    fn lend(&self) -> Pyramid<'_> {
+        self.pyramid.lend()
     }
 
     fn read(&self, level: u8, involution: u8, dart: u16) -> Result<Reading, Refusal> {
         let (level, involution) = (Level(level), Dimension(involution));
-        let direct = self.pyramid().read(level, involution, dart);
-        assert_eq!(
-            direct,
-            self.pyramid().read_by_levels(level, involution, dart)
-        );
+        let direct = self.lend().read(level, involution, dart);
+        assert_eq!(direct, self.lend().read_by_levels(level, involution, dart));
         direct
     }
 
     fn cost(&self, level: u8) -> Result<u32, Refusal> {
-        self.pyramid()
-            .unfold(Level(level), &mut vec![0; self.rows.len()])
+        self.lend()
+            .unfold(Level(level), &mut vec![0; self.pyramid.entries()])
     }
 }
 
@@ -115,7 +84,7 @@ fn p1_segment() {
     };
     let mut table = [7; 4];
     assert_eq!(pyramid.check(&mut table), Ok(()));
-    assert_eq!(table, [0, NONE, 0, NONE]);
+    assert_eq!(table, [0, ABSENT, 0, ABSENT]);
     assert_eq!(pyramid.read(Level(1), Dimension(0), 0), reading(0, 3));
     assert_eq!(pyramid.unfold(Level(1), &mut table), Ok(4));
 }
@@ -123,16 +92,13 @@ fn p1_segment() {
 #[test]
 fn p3_p4_square() {
     let mut square = Grown::new(1, &SQUARE);
-    assert_eq!(square.add(Dimension(0), &[1, 2]), Ok(()));
+    assert_eq!(square.add(Dimension(0), &[1, 2]), Ok(Level(1)));
     assert_eq!(square.read(1, 0, 0), reading(3, 3));
     assert_eq!(square.read(1, 0, 3), reading(0, 3));
     assert_eq!(square.cost(1), Ok(16));
-    assert_eq!(square.add(Dimension(0), &[3, 4]), Ok(()));
-    assert_eq!(square.h, Level(2));
-    assert_eq!(
-        (square.lambda[1], square.lambda[3], square.lambda[0]),
-        (0, 1, 2)
-    );
+    assert_eq!(square.add(Dimension(0), &[3, 4]), Ok(Level(2)));
+    assert_eq!(square.lend().h, Level(2));
+    assert_eq!(square.lend().lambda, [2, 0, 0, 1, 1, 2, 2, 2]);
     assert_eq!(square.read(2, 0, 0), reading(5, 5));
     assert_eq!(square.cost(2), Ok(16));
 }
@@ -142,8 +108,8 @@ fn p5_part_of_a_cell() {
     let mut square = Grown::new(1, &SQUARE);
     assert_eq!(square.add(Dimension(0), &[1]), Err(refused(9, 0, 1, 1)));
     assert_eq!(
-        (square.h, &square.lambda[..], &square.delta[..]),
-        (Level(0), &[0; 8][..], &[1; 8][..])
+        square.pyramid,
+        PyramidBuf::from_base(Dimension(1), 8, SQUARE.to_vec()).unwrap()
     );
     assert_eq!(square.table, SQUARE);
 }
@@ -173,7 +139,7 @@ fn p8_p9_star() {
     assert_eq!(star.read(1, 1, 1).map(|r| r.neighbour), Ok(4));
     assert_eq!(star.read(1, 1, 4).map(|r| r.neighbour), Ok(1));
     assert_eq!(star.read(2, 0, 7), reading(10, 5));
-    assert_eq!(star.pyramid().check(&mut [0; 36]), Ok(()));
+    assert_eq!(star.lend().check(&mut [0; 36]), Ok(()));
 }
 
 #[test]
@@ -207,7 +173,7 @@ fn star_levels() {
     for (level, total, bits) in [(0, 36, 0xfff), (1, 28, 0xcf3), (2, 24, 0xcc0u64)] {
         assert_eq!(star.cost(level), Ok(total));
         assert_eq!(
-            star.pyramid().survivors(Level(level), &mut words),
+            star.lend().survivors(Level(level), &mut words),
             Ok(bits.count_ones())
         );
         assert_eq!((words[0], &words[1..]), (bits, &[0; 63][..]));
@@ -218,15 +184,15 @@ fn star_levels() {
 fn star_marks_read_back() {
     let star = star();
     let mut marks = [0; 12];
-    assert_eq!(star.pyramid().marks(Level(1), &mut marks), Ok(()));
+    assert_eq!(star.lend().marks_of(Level(1), &mut marks), Ok(()));
     assert_eq!(
         marks,
         [0, 0, STAY, STAY, 0, 0, STAY, STAY, STAY, STAY, STAY, STAY]
     );
-    assert_eq!(star.pyramid().marks(Level(2), &mut marks), Ok(()));
+    assert_eq!(star.lend().marks_of(Level(2), &mut marks), Ok(()));
     assert_eq!(marks, [STAY; 12]);
     assert_eq!(
-        star.pyramid().marks(Level(3), &mut marks),
+        star.lend().marks_of(Level(3), &mut marks),
         Err(refused(11, 3, 0, 0))
     );
 }
@@ -235,12 +201,12 @@ fn star_marks_read_back() {
 fn star_cells_marked() {
     let mut marks = [0; 12];
     assert_eq!(
-        mark(Dimension(2), 12, &STAR, Dimension(1), &mut marks),
+        mark_cells(Dimension(2), 12, &STAR, Dimension(1), &mut marks),
         Ok(())
     );
     assert_eq!(marks, [1; 12]);
     assert_eq!(
-        mark(Dimension(2), 12, &STAR, Dimension(2), &mut marks),
+        mark_cells(Dimension(2), 12, &STAR, Dimension(2), &mut marks),
         Err(refused(13, 0, 2, 0))
     );
 }
@@ -248,11 +214,11 @@ fn star_cells_marked() {
 #[test]
 fn rows_are_parts_of_what_is_lent() {
     let star = star();
-    let pyramid = star.pyramid();
+    let pyramid = star.lend();
     let mut unfolded = [0; 36];
     pyramid.unfold(Level(1), &mut unfolded).unwrap();
     let first = pyramid.row(&unfolded, Level(0), Dimension(1)).unwrap();
-    assert!(std::ptr::eq(first, &star.rows[12..24]));
+    assert!(std::ptr::eq(first, &pyramid.rows[12..24]));
     let second = pyramid.row(&unfolded, Level(1), Dimension(2)).unwrap();
     assert!(std::ptr::eq(second, &unfolded[24..36]));
     assert_eq!(

@@ -1,0 +1,53 @@
+/* The header alone, as C99 and as C++11: layouts, texts, and that header and archive are of one version. */
+#include "zompelgors.h"
+
+#include <stdio.h>
+#include <string.h>
+
+#define SAME(name, a, b) typedef char name[(a) == (b) ? 1 : -1]
+
+SAME(size_of_refusal, sizeof(zg_refusal), 8);
+SAME(place_of_dart, offsetof(zg_refusal, dart), 6);
+SAME(size_of_reading, sizeof(zg_reading), 16);
+SAME(place_of_count, offsetof(zg_reading, count), 8);
+SAME(place_of_neighbour, offsetof(zg_reading, neighbour), 12);
+SAME(size_of_count, sizeof(zg_count), 12);
+SAME(place_of_total, offsetof(zg_count, count), 8);
+SAME(size_of_height, sizeof(zg_height), 10);
+SAME(place_of_height, offsetof(zg_height, height), 8);
+SAME(size_of_part, sizeof(zg_part), 14);
+SAME(place_of_unfolded, offsetof(zg_part, unfolded), 8);
+SAME(place_of_start, offsetof(zg_part, start), 10);
+SAME(place_of_length, offsetof(zg_part, length), 12);
+SAME(size_of_record, sizeof(zg_record), 12);
+SAME(place_of_n, offsetof(zg_record, n), 8);
+SAME(place_of_h, offsetof(zg_record, h), 9);
+SAME(place_of_darts, offsetof(zg_record, darts), 10);
+
+/* Every answer begins with its refusal. */
+SAME(first_of_reading, offsetof(zg_reading, refusal), 0);
+SAME(first_of_count, offsetof(zg_count, refusal), 0);
+SAME(first_of_height, offsetof(zg_height, refusal), 0);
+SAME(first_of_part, offsetof(zg_part, refusal), 0);
+SAME(first_of_record, offsetof(zg_record, refusal), 0);
+
+static int fail(const char *what)
+{
+    printf("%s\n", what);
+    return 1;
+}
+
+int main(void)
+{
+    uint16_t k, other;
+    if (zg_version() != ZG_VERSION)
+        return fail("the archive is of another version than the header");
+    for (k = ZG_ACCEPTED; k <= ZG_FULL; k++)
+        for (other = 0; other < k; other++)
+            if (!strcmp(zg_refusal_text(k), zg_refusal_text(other)))
+                return fail("two numbers have one text");
+    if (strcmp(zg_refusal_text(ZG_FULL + 1), zg_refusal_text(65535)))
+        return fail("a text for a number that is none");
+    printf("version %d.%d.%d, %d numbers\n", ZG_VERSION_MAJOR, ZG_VERSION_MINOR, ZG_VERSION_PATCH, ZG_FULL);
+    return 0;
+}
