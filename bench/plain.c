@@ -415,7 +415,7 @@ static zg_reading read_by(level_reader *reader, uint8_t n, uint16_t darts, uint8
     unsigned bad = bad_question(n, darts, h, rows_len, lambda, lambda_len, delta, delta_len, level, involution, dart);
     if (bad)
         return refuse_question(bad, level, involution, dart);
-    struct question q = {rows, lambda, delta, n, darts, h, level, involution, dart, 0, 0, {0}};
+    struct question q = {rows, lambda, delta, n, darts, h, level, involution, dart, 0, 0, {{0}}};
     unsigned met = reader(&q, level, involution, dart);
     if (met == ZG_ABSENT)
         return q.refused;

@@ -4,25 +4,30 @@
 #   LIB    the library, default target/staticlib/libzompelgors.a
 #   BUILD  where the programs are built, default target/bench
 #   CPU    the processor that is emulated, default qemu64
+#   JOBS   the jobs to measure, default all; MAPS the maps, default all
 #
 # Each figure is a run with one repetition less a run with none, so that setting up isn't in it. All buffers are
 # written before: they were cleared once, and no page is touched for the first time while instructions are counted.
 # qemu64 has no fast 'rep movsb', which the C library would use for large copies and the plug-in counts byte by byte.
+#
+# The status is 0 if every ratio is within its target, 1 if one is over it, 2 if a tool or the library is missing.
 set -u
 source "$(dirname "$0")/../tests/tools.sh"
 BUILD=${BUILD:-target/bench} CPU=${CPU:-qemu64}
-maps="grid2 grid3 path32 grid4 strip voxels"
-jobs="check add unfold read bylevels mark take survivors"
+maps=${MAPS:-"grid2 grid3 path32 grid4 strip voxels"}
+jobs=${JOBS:-"check add unfold read bylevels mark take survivors"}
 
-need "$CC" "${packages[0]}"
-need "$OBJCOPY" "${packages[2]}"
-need gcc gcc
-need qemu-x86_64 qemu-user
-stop_if_missing
+need_compiler
+[ "$LIB" != c ] || need "$binutils" "$OBJCOPY" --version
+[ "$CC" = gcc ] || need gcc gcc --version # of this machine, for the plug-in
+[ ${#run[@]} -gt 0 ] || need qemu-user qemu-x86_64 --version
+say_lacking
+[ ${#lacking[@]} -eq 0 ] || exit 2
 mkdir -p "$BUILD" || exit 2
 library "$BUILD"
 
-# The C library comes before the library measured: should that bring a memcpy of its own, both use the same one.
+# The C library comes before the library measured: should that bring a memcpy of its own, both use the same one. The program
+# is static, so that no call of memset looks for it while instructions are counted; it takes nothing of libm.
 build() {
     local part
     gcc -O2 -shared -fPIC -o "$BUILD/libinsn.so" bench/insn.c || return 1
@@ -49,14 +54,15 @@ count() {
     with=$(instructions "$@" 1) && without=$(instructions "$@" 0) && echo $((with - without))
 }
 
-# line LIBRARY C READS LIMIT: instructions, for each read, ratio, and whether it is over its target.
+# line LIBRARY C READS LIMIT: instructions, for each read, ratio, and whether it is over its target; that is the status.
 line() {
     awk -v a="$1" -v c="$2" -v reads="$3" -v most="$4" 'BEGIN {
         printf "%12d %12d", a, c
         if (reads > 0) printf " %10d %8.2f %8.2f", reads, a / reads, c / reads
         else printf " %10s %8s %8s", "-", "-", "-"
-        over = (a > most * c) ? "  over" : ""
-        printf " %7.3f %5.2f%s\n", a / c, most, over
+        over = a > most * c
+        printf " %7.3f %5.2f%s\n", a / c, most, over ? "  over" : ""
+        exit over
     }'
 }
 
@@ -70,6 +76,7 @@ limit() {
 echo "x86-64 instructions, $("$CC" --version | head -n 1), -O3; $(qemu-x86_64 --version | head -n 1), -cpu $CPU"
 echo "buffers cleared once before counting"
 echo
+over=0
 columns='%-9s %-22s %12s %12s %10s %8s %8s'
 printf "$columns %7s %5s\n" job "map (n, N, h)" library C "base reads" "lib/read" "C/read" ratio most
 for job in $jobs; do
@@ -77,12 +84,12 @@ for job in $jobs; do
         lib=$(count library "$job" "$map") && c=$(count c "$job" "$map") || exit 2
         read -r n darts h reads <"$BUILD/facts"
         printf '%-9s %-22s ' "$job" "$map ($n, $darts, $h)"
-        line "$lib" "$c" "$reads" "$(limit "$job")"
+        line "$lib" "$c" "$reads" "$(limit "$job")" || over=$((over + 1))
     done
 done
 
 echo
-echo "readings by levels in C that pass at once over levels without a change (document 01's go level by level)"
+echo "readings by levels in C that pass at once over levels without a change (those above go level by level)"
 for map in $maps; do
     c=$(count skipping bylevels "$map") || exit 2
     read -r n darts h reads <"$BUILD/facts"
@@ -104,3 +111,7 @@ for job in check unfold mark; do
         echo
     done
 done
+
+echo
+echo "$over ratios over their target"
+[ $over -eq 0 ]

@@ -1,5 +1,6 @@
 #!/usr/bin/env python3
-"""Holds the pages of docs/ to the sources: public functions, theorems of one outcome, wrong programs, definitions and their lines.
+"""Holds the pages of docs/ to the sources: public functions, theorems of one outcome, wrong programs, definitions and their
+lines, headings that are cited; and the C header to the crates: names of refusals, version, width.
 
 tests/pages.py            says what differs, and fails if anything does
 tests/pages.py --write    writes docs/DEFINITIONS.md anew
@@ -55,6 +56,34 @@ def definitions_page():
     )
 
 
+def spelt(variant):
+    """The header's name of a refusal: NotTwice is ZG_NOT_TWICE."""
+    return "ZG_" + re.sub(r"(?<!^)([A-Z])", r"_\1", variant).upper()
+
+
+def header_differences():
+    header = (ROOT / "include" / "zompelgors.h").read_text()
+    refusals = re.search(r"pub enum Refusal \{(.*?)\}", (CRATES / "answers" / "src" / "lib.rt").read_text(), re.S)[1]
+    due = ["ZG_ACCEPTED"] + [spelt(name) for name in re.findall(r"^ +(\w+)", refusals, re.M)]
+    if re.findall(r"^ +(ZG_\w+) = (\d+)", header, re.M) != [(name, str(k)) for k, name in enumerate(due)]:
+        yield "include/zompelgors.h names the numbers otherwise than crates/answers does"
+    parts = re.findall(r"^#define ZG_VERSION_(?:MAJOR|MINOR|PATCH) (\d+)", header, re.M)
+    if f"versionFor {' '.join(parts)} " not in (CRATES / "zompelgors" / "src" / "lib.rt").read_text():
+        yield "include/zompelgors.h and zg_version are of two versions"
+    for number, line in enumerate(header.split("\n"), 1):
+        if len(line) > 120:
+            yield f"include/zompelgors.h:{number} is over 120 columns wide"
+
+
+def cited_differences():
+    """A comment cites a heading of docs/SCOPE.md as Scope: 'HEADING'."""
+    headings = re.findall(r"^#+ (.*)", (ROOT / "docs" / "SCOPE.md").read_text(), re.M)
+    for path in sorted((CRATES / "maps" / "specs").glob("*.antt")):
+        for name in re.findall(r"Scope: '([^']*)'", path.read_text()):
+            if name not in headings:
+                yield f"{path.relative_to(ROOT)} cites '{name}', which is no heading of docs/SCOPE.md"
+
+
 def differences():
     libraries = [p.parent.parent.name for p in CRATES.glob("*/src/lib.rt")]
     public = set().union(*(public_functions(crate) for crate in libraries))
@@ -77,6 +106,8 @@ def differences():
 
     if (ROOT / "docs" / "DEFINITIONS.md").read_text() != definitions_page():
         yield "docs/DEFINITIONS.md is not what --write writes"
+    yield from header_differences()
+    yield from cited_differences()
 
 
 if __name__ == "__main__":

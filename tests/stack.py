@@ -1,7 +1,9 @@
 #!/usr/bin/env python3
 """Prints the stack that each function of the C library takes, in bytes: its return address, registers saved, locals
-and what it passes on, then those of its callees; read out of the code.   python3 tests/stack.py [LIBRARY]"""
-import re, subprocess, sys
+and what it passes on, then those of its callees; read out of the code.   python3 tests/stack.py [LIBRARY]
+
+It needs an objdump for x86-64: OBJDUMP names one, else the cross one is taken, or on x86-64 the machine's own."""
+import os, platform, re, shutil, subprocess, sys
 
 # How deep functions call themselves or each other: an unfolding once for each row, 0 to 4; a reading by levels once for
 # each level, 0 to 32.
@@ -9,9 +11,18 @@ DEPTHS = {"reading::rows_to": 5}
 LEVELS = 33
 
 
+def objdump():
+    """The command that disassembles x86-64 code on this machine."""
+    own = platform.machine() == "x86_64"
+    names = [os.environ.get("OBJDUMP"), "x86_64-linux-gnu-objdump", "objdump" if own else None]
+    found = next((name for name in names if name and shutil.which(name)), None)
+    package = "binutils" if own else "binutils-x86-64-linux-gnu"
+    return found or sys.exit(f"no objdump for x86-64: apt-get install {package}, or set OBJDUMP")
+
+
 def disassembled(library):
     """For each function its instructions; a call's target is in the relocation below it, or in the call itself."""
-    command = ["objdump", "-dr", "-M", "intel", "--no-show-raw-insn", library]
+    command = [objdump(), "-dr", "-M", "intel", "--no-show-raw-insn", library]
     functions = {}
     for line in subprocess.run(command, check=True, capture_output=True, text=True).stdout.splitlines():
         head = re.match(r"[0-9a-f]+ <(.*)>:$", line)
@@ -66,7 +77,10 @@ def stack(name, functions):
     return own + max((stack(f, functions) for f in calls), default=0)
 
 
-functions = disassembled(sys.argv[1] if len(sys.argv) > 1 else "target/staticlib/libzompelgors.a")
+library = sys.argv[1] if len(sys.argv) > 1 else "target/staticlib/libzompelgors.a"
+if not os.path.isfile(library):
+    sys.exit(f"there is no {library}: 'rt staticlib zompelgors' makes target/staticlib/libzompelgors.a")
+functions = disassembled(library)
 for name in sorted(functions):
     if name.startswith("zg_"):
         print(f"{stack(name, functions):6} {name}")
