@@ -12,18 +12,19 @@ use Rattle.maps.specs.Check.{checkMap, check8, checkKernels, checkKernel
 use Rattle.maps.specs.CheckPyramid.{leftBehind}
 
 module _ (n N h : ℕ) (rows lambda delta row table : List ℕ) where
-  -- 8 of a mark row (level h): below n, remove; 255, stay; a dart not on level h must have 255
+  -- Scope: 'Add a level'. A mark row's entry is refused unless it is below n on a dart of level h, or 255.
   abbrev pub refusedMark : ℕ → Bool
   refusedMark d = not (cond (isMark n (each row d)) (eqb (each lambda d) h) (eqb (each row d) stay))
 
+  -- Scope: 'Fields'. Number 8 of a mark row has level h and involution 0.
   unfoldable pub atRow8 : ℕ → Verdict
   atRow8 d = when (refusedMark d) (refused 8 h 0 d)
 
-  -- 20: a level is added at h = 32
+  -- Scope: 'Numbers of refusal'. 20: a level is added at h = 32.
   unfoldable pub number20 : Verdict
   number20 = when (eqb h 32) (refused 20 0 0 0)
 
-  -- 1 2 3 4 20 5 6 7 8 9 10; of 8, Λ and Δ rows before the mark row
+  -- Scope: 'Add a level'. Sizes and lengths, then 20, the base, Λ and Δ, the mark row, the kernels, and the mark row as kernel h.
   unfoldable pub addLent : Verdict
   addLent =
       sizes n N h
@@ -35,17 +36,19 @@ module _ (n N h : ℕ) (rows lambda delta row table : List ℕ) where
       then (checkKernels (entry N rows) n N h (each lambda) (each delta)
       then checkKernel (level (entry N rows) n N (marks h (each lambda) (each delta)) h) n N (each row) h))))))
 
-  -- Accepted: h grows by 1, darts marked get Λ = old h and that Δ, the other survivors Λ = new h. Refused: all as found.
+  -- Scope: 'Add a level'. Accepted, the height grows by 1; refused, it is the height given.
   unfoldable pub addHeight : ℕ
   addHeight = ifAccepted addLent (suc h) h
 
+  -- Scope: 'Add a level'. Accepted, Λ with the level added; refused, as found.
   unfoldable pub addLambda : List ℕ
   addLambda = ifAccepted addLent (listed (addΛ n h (each lambda) (each row)) N) lambda
 
+  -- Scope: 'Add a level'. Accepted, Δ with the level added; refused, as found.
   unfoldable pub addDelta : List ℕ
   addDelta = ifAccepted addLent (listed (addΔ n (each delta) (each row)) N) delta
 
-  -- and the table holds the new top level
+  -- Scope: 'Left behind'. Accepted, the table holds the new top; the rest is as for a check.
   unfoldable pub addLeaves : List ℕ
   addLeaves =
       leftBehind (levelTable (entry N rows) n N (suc h) (addΛ n h (each lambda) (each row)) (addΔ n (each delta) (each row)) (suc h))

@@ -9,7 +9,7 @@ use Rattle.maps.specs.Walk.{Walked, ended, stopped}
 
 -- The question is involution i of dart b; c base entries are read already.
 module _ (a : Involutions) (n N h : ℕ) (Λ Δ : ℕ → ℕ) (i b : ℕ) where
-  -- a base entry, with 15, 5 and 8
+  -- Scope: 'Reading by levels'. Level 0 is a base entry: 15 before it is read, then 5 of the entry and 8 of the dart met.
   unfoldable pub readBase : ℕ → ℕ → ℕ → Walked
   readBase t d c = elim (ltb c (1 + 2 * N)) [
     | false ↦ stopped 15 i b
@@ -22,8 +22,8 @@ module _ (a : Involutions) (n N h : ℕ) (Λ Δ : ℕ → ℕ) (i b : ℕ) where
     ]
   ]
 
-  -- The walk over level l, which `below` reads, that finds row t of dart d on level l+1. 14: a dart met that is not on level l+1 and is
-  -- not in kernel l with dimension t, or one reached by a_(t+1) that is not in that kernel with that dimension too.
+  -- Scope: 'Reading by levels'. The walk over level l, which `below` reads, for row t of dart d on level l+1. A dart met that is not on
+  -- level l+1, and the dart reached from it, must both be in kernel l with the row's dimension, or it is 14.
   unfoldable pub overLevel : (ℕ → ℕ → ℕ → Walked) → ℕ → ℕ → ℕ → ℕ → ℕ → Walked
   overLevel below l zero t d c = stopped 15 i b
   overLevel below l (suc times) t d c = elim (below t d c) [
@@ -43,10 +43,11 @@ module _ (a : Involutions) (n N h : ℕ) (Λ Δ : ℕ → ℕ) (i b : ℕ) where
     ]
   ]
 
-  -- row t of dart d on level l; a walk goes on no more often than it reads
+  -- Scope: 'Reading by levels'. Row t of dart d on level l: each step is a reading one level lower. A walk goes on no more often than it reads.
   unfoldable pub readLevel : ℕ → ℕ → ℕ → ℕ → Walked
   readLevel zero t d c = readBase t d c
   readLevel (suc l) t d c = overLevel (readLevel l) l (1 + 2 * N) t d c
 
+  -- Scope: 'Reading by levels'. The whole question, with one count from 0.
   unfoldable pub byLevels : ℕ → Walked
   byLevels l = readLevel l i b 0

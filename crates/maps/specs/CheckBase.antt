@@ -8,13 +8,14 @@ use Rattle.maps.specs.Sizes.{sizes, number4, hasLength}
 use Rattle.maps.specs.Table.{entry, absent}
 use Rattle.maps.specs.Check.{checkMap}
 
--- 1 2 4 5 6 7
+-- Scope: 'Check a base'. Sizes, length, then the map, all of whose darts are present.
 unfoldable pub checkBase : ℕ → ℕ → List ℕ → Verdict
 checkBase n N rows = sizes n N 0 then (number4 (hasLength rows (suc n * N)) then checkMap (entry N rows) n N (λ d. true))
 
--- absent: row 0 holds 65,535
+-- Scope: 'Explicit levels'. A dart is absent where row 0 holds 65,535.
 abbrev pub present : ℕ → List ℕ → ℕ → Bool
 present N table d = not (eqb (entry N table 0 d) absent)
 
+-- Scope: 'Mark cells'. The same tests of an explicit level.
 unfoldable pub checkExplicit : ℕ → ℕ → List ℕ → Verdict
 checkExplicit n N table = sizes n N 0 then (number4 (hasLength table (suc n * N)) then checkMap (entry N table) n N (present N table))

@@ -9,23 +9,23 @@ use Rattle.maps.specs.Table.{entry, each}
 use Rattle.maps.specs.Folded.{levelTable}
 use Rattle.maps.specs.Check.{checkPyramid}
 
--- What is left in the lent table: accepted, the top; after 9 or 10 the explicit level whose kernel failed; after any other refusal nothing has changed.
+-- Scope: 'Left behind'. Accepted, the top; after 9 or 10 the level whose kernel failed; after any other number what was found.
 unfoldable pub leftBehind : List ℕ → (ℕ → List ℕ) → List ℕ → Verdict → List ℕ
 leftBehind top levels found accepted = top
 leftBehind top levels found (refused number level involution dart) = cond (eqb number 9 || eqb number 10) (levels level) found
 
 module _ (n N h : ℕ) (rows lambda delta table : List ℕ) where
-  -- 1 2 3 4 5 6 7 8 9 10
+  -- Scope: 'Check a pyramid'. Sizes and lengths, then base, marks and kernels.
   unfoldable pub checkLent : Verdict
   checkLent =
       sizes n N h
       then (number4 (hasLength rows (suc n * N) && (hasLength lambda N && (hasLength delta N && hasLength table (suc n * N))))
       then checkPyramid (entry N rows) n N h (each lambda) (each delta))
 
-  -- the explicit table of level l
+  -- Scope: 'Explicit levels'. The table of level l of what is lent.
   abbrev pub tableAt : ℕ → List ℕ
   tableAt l = levelTable (entry N rows) n N h (each lambda) (each delta) l
 
-  -- accepted, it holds the explicit level h
+  -- Scope: 'Check a pyramid'. What is left in the lent table; accepted, level h.
   unfoldable pub checkLeaves : List ℕ
   checkLeaves = leftBehind (tableAt h) tableAt table checkLent

@@ -7,10 +7,10 @@ use Rattle.maps.specs.Folded.{survives}
 use Rattle.maps.specs.Walk.{walk, countOf}
 
 module _ (a : Involutions) (n N h : ℕ) (Λ Δ : ℕ → ℕ) (l : ℕ) where
-  -- the count of the walk of a survivor; no walk begins at a dart that is not on the level
+  -- Scope: 'Cost of a level'. The count of a survivor's walk; no walk begins at any other dart.
   unfoldable pub reads : ℕ → ℕ → ℕ
   reads i b = cond (survives Λ l b) (countOf (walk a n N h Λ Δ l i b)) 0
 
-  -- the counts of all walks, by involution, then dart
+  -- Scope: 'Cost of a level'. The counts of all walks, by involution, then dart.
   unfoldable pub cost : ℕ
   cost = sum (λ i. sum (λ b. reads i b) N) (suc n)

@@ -2,12 +2,12 @@
 use mathlib.Core.Path.{_≡_}
 use Prim.Native.Nat.{ℕ, _+_, _≤_}
 
--- Involutions a0 to an: a i d is where dart d leads by a_i.
+-- Scope: 'Sizes'. Rows a_0 to a_n: a i d is where dart d leads by a_i.
 abbrev pub Involutions : Type 0
 Involutions = ℕ → ℕ → ℕ
 
--- Valid: each a_i applied twice is the identity; for j ≥ i+2, going by a_i then a_j ends where a_j then a_i ends.
--- It speaks of the darts present, and no involution leads out of them, so that it serves the base and every level.
+-- Scope: 'Valid maps'. Each row leads back, rows two apart commute. It speaks of the darts present, and no row leads out of them, so
+-- that it serves the base and every level.
 pub record Valid (a : Involutions) (n : ℕ) (present : ℕ → Type 0) : Type 0 where
   pub inside : (i d : ℕ) → i ≤ n → present d → present (a i d)
   pub twice : (i d : ℕ) → i ≤ n → present d → a i (a i d) ≡ d

@@ -14,7 +14,7 @@ use Rattle.maps.specs.Table.{entry, each}
 use Rattle.maps.specs.Check.{checkMap}
 use Rattle.maps.specs.CheckBase.{present}
 
--- 1 2 4 13 5 6 7; 13: for marking δ ≥ n
+-- Scope: 'Mark cells'. Sizes and lengths, 13 where δ is n or more, then the explicit level.
 unfoldable pub markLent : ℕ → ℕ → List ℕ → ℕ → List ℕ → Verdict
 markLent n N table δ out =
     sizes n N 0
@@ -22,14 +22,14 @@ markLent n N table δ out =
     then (when (not (ltb δ n)) (refused 13 0 δ 0)
     then checkMap (entry N table) n N (present N table)))
 
--- Every δ-cell that is removable is marked, the rest get 255.
+-- Scope: 'Mark cells'. Each dart of a removable δ-cell has δ as its mark, every other dart 255.
 pub record CellsMarked (n N : ℕ) (table : List ℕ) (δ : ℕ) (out : List ℕ) : Type 0 where
   pub long : length out ≡ N
   pub mark : (d : ℕ) → d < N
       → ((present N table d ≡ true) × Removable (entry N table) n δ d × (each out d ≡ δ))
       ⊎ (((present N table d ≡ true) × Removable (entry N table) n δ d → ⊥) × (each out d ≡ stay))
 
--- accepted, the cells are marked; after a refusal nothing lent has changed
+-- Scope: 'Left behind'. Accepted, the cells are marked; refused, the row is as found.
 abbrev pub MarkLeaves : ℕ → ℕ → List ℕ → ℕ → List ℕ → Verdict → List ℕ → Type 0
 MarkLeaves n N table δ found accepted out = CellsMarked n N table δ out
 MarkLeaves n N table δ found (refused number level involution dart) out = out ≡ found

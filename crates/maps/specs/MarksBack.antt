@@ -8,14 +8,14 @@ use Rattle.maps.specs.Table.{each, listed}
 use Rattle.maps.specs.Folded.{refusedMarks, marks}
 
 module _ (n N h : ℕ) (lambda delta : List ℕ) (l : ℕ) (out : List ℕ) where
-  -- marks read back give 8 the level asked, involution 0
+  -- Scope: 'Fields'. Number 8 of marks read back has the level asked and involution 0.
   unfoldable pub atMarks8 : ℕ → Verdict
   atMarks8 d = when (refusedMarks n h (each lambda d) (each delta d)) (refused 8 l 0 d)
 
-  -- 1 2 3 4 11 8
+  -- Scope: 'Marks read back'. Sizes and lengths, then 11, then 8 over all darts.
   unfoldable pub marksLent : Verdict
   marksLent = sizes n N h then (number4 (hasLength lambda N && (hasLength delta N && hasLength out N)) then (number11 h l 0 0 then scan N atMarks8))
 
-  -- Δ where Λ is that level, else 255; for level h all 255. After a refusal nothing lent has changed.
+  -- Scope: 'Marks read back'. Accepted, the level's mark row; refused, as found.
   unfoldable pub marksLeaves : List ℕ
   marksLeaves = ifAccepted marksLent (listed (marks h (each lambda) (each delta) l) N) out

@@ -7,7 +7,7 @@ use Rattle.maps.specs.Mark.{stay}
 use Rattle.maps.specs.Kernel.{Kernel}
 use Rattle.maps.specs.Folded.{On, refusedMarks, marks, level}
 
--- A valid base, marks that are not refused, and at each level below h a kernel of that level. (n is 1 to 4; all that the facts need of it is that 255 is no mark.)
+-- Scope: 'Accepted pyramids'. A valid base, marks that are allowed, and below h at each level a kernel of that level. (n is 1 to 4; all that the facts need of it is that 255 is no mark.)
 pub record Pyramid (a : Involutions) (n N h : ℕ) (Λ Δ : ℕ → ℕ) : Type 0 where
   pub dimension : n ≤ stay
   pub base : Valid a n (λ d. d < N)

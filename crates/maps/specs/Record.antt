@@ -9,15 +9,16 @@ use Rattle.maps.specs.Sizes.{sizes, number4}
 use Rattle.maps.specs.Table.{listed}
 
 module _ (bytes : List ℕ) where
+  -- Scope: 'Record'. The byte at an offset.
   abbrev pub byte : ℕ → ℕ
   byte at = getD bytes at 0
 
-  -- two bytes, low byte first
+  -- Scope: 'Record'. Two bytes, low byte first.
   abbrev pub twoBytes : ℕ → ℕ
   twoBytes at = byte at + 256 * byte (at + 1)
 
-  -- The field at an offset: one-byte tag, two-byte length, body. Its tag is tested when one byte is there (17), then its length bytes
-  -- (16 if missing), then 18, then its body (16). The byte offset of the field stands in place of the dart.
+  -- Scope: 'Tests of a record'. A field with the tag and size due: its tag, its length bytes, its length, its body, each refused with the
+  -- field's offset in place of the dart.
   unfoldable pub field : ℕ → ℕ → ℕ → Verdict
   field at tag size =
       when (leb (length bytes) at) (refused 16 0 0 at)
@@ -26,40 +27,47 @@ module _ (bytes : List ℕ) where
       then (when (not (eqb (twoBytes (at + 1)) size)) (refused 18 0 0 at)
       then when (ltb (length bytes) (at + 3 + size)) (refused 16 0 0 at))))
 
-  -- tag 0x01, length 4: n, h, N in two bytes low first
+  -- Scope: 'Record'. The header's n.
   abbrev pub recordDimension : ℕ
   recordDimension = byte 3
 
+  -- Scope: 'Record'. The header's h.
   abbrev pub recordHeight : ℕ
   recordHeight = byte 4
 
+  -- Scope: 'Record'. The header's N.
   abbrev pub recordDarts : ℕ
   recordDarts = twoBytes 5
 
-  -- Rows 0 to n as tags 0x10 to 0x14 with 2N bytes, or, if N ≤ 256, all of them as tags 0x20 to 0x24 with N bytes. The first row's tag settles the kind.
+  -- Scope: 'Record'. The first row's tag settles the kind: one byte an entry only where N ≤ 256.
   abbrev pub oneByte : Bool
   oneByte = eqb (byte 7) 0x20 && leb recordDarts 256
 
+  -- Scope: 'Record'. The tag due for row i.
   abbrev pub rowTag : ℕ → ℕ
   rowTag i = cond oneByte 0x20 0x10 + i
 
+  -- Scope: 'Record'. The bytes of a row.
   abbrev pub rowSize : ℕ
   rowSize = cond oneByte recordDarts (2 * recordDarts)
 
-  -- where row i, Λ, Δ and the end stand
+  -- Scope: 'Record'. Where the field of row i starts.
   abbrev pub rowAt : ℕ → ℕ
   rowAt i = 7 + i * (3 + rowSize)
 
+  -- Scope: 'Record'. Λ follows the last row.
   abbrev pub lambdaAt : ℕ
   lambdaAt = rowAt (suc recordDimension)
 
+  -- Scope: 'Record'. Δ follows Λ.
   abbrev pub deltaAt : ℕ
   deltaAt = lambdaAt + (3 + recordDarts)
 
+  -- Scope: 'Record'. Nothing follows Δ.
   abbrev pub endAt : ℕ
   endAt = deltaAt + (3 + recordDarts)
 
-  -- values 1, 2, 3 follow the header body; 0x30, Λ, N bytes; 0x31, Δ, N bytes; end: 19, the first byte too many
+  -- Scope: 'Tests of a record'. The header, then 1, 2, 3 of its values, the rows, Λ and Δ; 19 at the first byte too many.
   unfoldable pub formed : Verdict
   formed =
       field 0 0x01 4
@@ -69,25 +77,27 @@ module _ (bytes : List ℕ) where
       then (field deltaAt 0x31 recordDarts
       then when (ltb endAt (length bytes)) (refused 19 0 0 endAt)))))
 
-  -- what the record says
+  -- Scope: 'Record'. Entry d of row i.
   abbrev pub recordEntry : ℕ → ℕ → ℕ
   recordEntry i d = cond oneByte (byte (rowAt i + 3 + d)) (twoBytes (rowAt i + 3 + 2 * d))
 
   module _ (rows lambda delta : List ℕ) where
-    -- Lent rows hold at least (n+1)N entries, mark rows N; 4 is tested after 19.
+    -- Scope: 'Take a record'. A record that is formed, then 4: each slice is long enough.
     unfoldable pub takeLent : Verdict
     takeLent = formed then number4 (leb (suc recordDimension * recordDarts) (length rows) && (leb recordDarts (length lambda) && leb recordDarts (length delta)))
 
-    -- the first m entries written, the rest of a longer slice untouched
+    -- Scope: 'Take a record'. The first m entries written, the rest of a longer slice untouched.
     abbrev pub front : (ℕ → ℕ) → ℕ → List ℕ → List ℕ
     front value m slice = listed (λ x. cond (ltb x m) (value x) (getD slice x 0)) (length slice)
 
-    -- after a refusal nothing lent has changed
+    -- Scope: 'Take a record'. What is left in the rows; refused, as found.
     unfoldable pub takeRows : List ℕ
     takeRows = ifAccepted takeLent (front (λ x. recordEntry (x / recordDarts) (x % recordDarts)) (suc recordDimension * recordDarts) rows) rows
 
+    -- Scope: 'Take a record'. The same of Λ.
     unfoldable pub takeLambda : List ℕ
     takeLambda = ifAccepted takeLent (front (λ d. byte (lambdaAt + 3 + d)) recordDarts lambda) lambda
 
+    -- Scope: 'Take a record'. The same of Δ.
     unfoldable pub takeDelta : List ℕ
     takeDelta = ifAccepted takeLent (front (λ d. byte (deltaAt + 3 + d)) recordDarts delta) delta

@@ -6,16 +6,15 @@ use Rattle.maps.specs.Map.{Involutions}
 use Rattle.maps.specs.Mark.{isMark, between}
 
 module _ (a : Involutions) (n : ℕ) (mark : ℕ → ℕ) where
-  -- is dart d marked i
+  -- Scope: 'Kernels'. Is dart d in the kernel, with a mark that a walk by row i passes?
   abbrev pub marked : ℕ → ℕ → Bool
   marked i d = isMark n (mark d) && eqb (between (mark d) .0) i
 
-  -- while there is a dart marked i, go on by a_(i+1), then a_i
+  -- Scope: 'Removal'. From a dart marked i the way goes on, by the next row and then by a_i, at most so many times.
   unfoldable pub goOn : ℕ → ℕ → ℕ → ℕ
   goOn zero i d = d
   goOn (suc times) i d = elim (marked i d) [ true ↦ goOn times i (a i (a (between (mark d) .1) d)) | false ↦ d ]
 
-  -- The new a_i of survivor b: go to b's neighbour by a_i; while there is a dart marked i, go on by a_(i+1), then a_i; stop at the first survivor.
-  -- There are N darts, and in an accepted kernel no walk goes on more than N times.
+  -- Scope: 'Removal'. The new a_i of a survivor. A kernel that is accepted has no way that goes on more than N times.
   unfoldable pub removal : ℕ → Involutions
   removal N i b = goOn N i (a i b)

@@ -8,10 +8,10 @@ use Rattle.maps.specs.Verdict.{Verdict, ifAccepted, _then_}
 use Rattle.maps.specs.Sizes.{sizes, number4, number11, number13, hasLength}
 
 module _ (n N h : ℕ) (base unfolded : List ℕ) (l i : ℕ) where
-  -- 1 2 3 4 11 13
+  -- Scope: 'Row'. Sizes and lengths, then 11 and 13.
   unfoldable pub rowLent : Verdict
   rowLent = sizes n N h then (number4 (hasLength base (suc n * N) && hasLength unfolded (suc n * N)) then (number11 h l i 0 then number13 n l i 0))
 
-  -- For level 0 the row handed back is part of the base rows, for any other level part of the unfolded table. A refused row is an empty part.
+  -- Scope: 'Row'. Row i of the base for level 0, of the unfolded table for any other; refused, an empty part.
   unfoldable pub rowPart : List ℕ
   rowPart = ifAccepted rowLent (take N (drop (i * N) (cond (eqb l 0) base unfolded))) []

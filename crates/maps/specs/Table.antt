@@ -5,11 +5,11 @@ use Prim.Native.Nat.{ℕ, zero, suc, _+_, _*_, _/_, _%_}
 use lib.ListN.{getD}
 use Rattle.maps.specs.Map.{Involutions}
 
--- the involutions that a table holds: n+1 rows of N numbers, row 0 first
+-- Scope: 'Sizes'. The rows that a table holds: N entries each, row 0 first.
 abbrev pub entry : ℕ → List ℕ → Involutions
 entry N table i d = getD table (i * N + d) 0
 
--- Λ, Δ or a mark row: a number for each dart
+-- Scope: 'Mark rows'. Λ, Δ or a mark row: a number for each dart.
 abbrev pub each : List ℕ → ℕ → ℕ
 each row d = getD row d 0
 
@@ -18,10 +18,10 @@ unfoldable pub listed : (ℕ → ℕ) → ℕ → List ℕ
 listed f zero = []
 listed f (suc m) = listed f m ++ (f m ∷ [])
 
--- 65,535
+-- Scope: 'Explicit levels'. What stands in place of a neighbour.
 abbrev pub absent : ℕ
 absent = 65535
 
--- In an explicit level table every row entry of a removed dart is 65,535.
+-- Scope: 'Explicit levels'. The table of a level: every entry of a dart that is not present is 65,535.
 unfoldable pub explicit : Involutions → ℕ → ℕ → (ℕ → Bool) → List ℕ
 explicit a n N present = listed (λ x. cond (present (x % N)) (a (x / N) (x % N)) absent) (suc n * N)

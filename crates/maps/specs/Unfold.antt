@@ -12,24 +12,26 @@ use Rattle.maps.specs.Walk.{Walked, ended, stopped, walk}
 use Rattle.maps.specs.Cost.{cost}
 use Rattle.maps.specs.MarksBack.{atMarks8}
 
--- a walk's refusal, with the level asked
+-- Scope: 'Fields'. A walk's refusal, with the level asked.
 abbrev pub walkVerdict : ℕ → Walked → Verdict
 walkVerdict l (ended row dart count) = accepted
 walkVerdict l (stopped number row dart) = refused number l row dart
 
--- the dart where a walk ends
+-- Scope: 'Direct walk'. The dart where a walk ends.
 abbrev pub dartOf : Walked → ℕ
 dartOf (ended row dart count) = dart
 dartOf (stopped number row dart) = 0
 
 module _ (n N h : ℕ) (rows lambda delta : List ℕ) (l : ℕ) (table : List ℕ) where
+  -- Scope: 'Direct walk'. The walk of dart d by row i, over what is lent.
   abbrev pub walkAt : ℕ → ℕ → Walked
   walkAt i d = walk (entry N rows) n N h (each lambda) (each delta) l i d
 
+  -- Scope: 'Unfold a level'. Only survivors begin a walk.
   unfoldable pub atWalk : ℕ → ℕ → Verdict
   atWalk i d = elim (survives (each lambda) l d) [ true ↦ walkVerdict l (walkAt i d) | false ↦ accepted ]
 
-  -- 1 2 3 4 11, then 8 over all darts (the level asked, involution 0), then the walks, by involution, then dart
+  -- Scope: 'Unfold a level'. Sizes and lengths, then 11, 8 over all darts, and the walks by involution, then dart.
   unfoldable pub unfoldLent : Verdict
   unfoldLent =
       sizes n N h
@@ -37,14 +39,15 @@ module _ (n N h : ℕ) (rows lambda delta : List ℕ) (l : ℕ) (table : List �
       then (number11 h l 0 0 then (scan N (atMarks8 n N h lambda delta l table)
       then scan (suc n) (λ i. scan N (atWalk i)))))
 
-  -- Counts are 0 in a refusal.
+  -- Scope: 'Unfold a level'. The sum of all counts; 0 in a refusal.
   unfoldable pub unfoldTotal : ℕ
   unfoldTotal = ifAccepted unfoldLent (cost (entry N rows) n N h (each lambda) (each delta) l) 0
 
-  -- After 5, 14 or 15 the table is 65,535 throughout; after any other refusal nothing lent has changed.
+  -- Scope: 'Left behind'. After 5, 14 or 15 the table is 65,535 throughout; after any other number as found.
   abbrev pub unfolded : Verdict → List ℕ → List ℕ
   unfolded accepted new = new
   unfolded (refused number level involution dart) new = cond (eqb number 5 || (eqb number 14 || eqb number 15)) (listed (λ x. absent) (length table)) table
 
+  -- Scope: 'Unfold a level'. What is left in the table; accepted, the explicit level.
   unfoldable pub unfoldLeaves : List ℕ
   unfoldLeaves = unfolded unfoldLent (explicit (λ i d. dartOf (walkAt i d)) n N (survives (each lambda) l))

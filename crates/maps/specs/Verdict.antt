@@ -2,7 +2,7 @@
 use mathlib.Core.Bool.{Bool, true, false}
 use Prim.Native.Nat.{ℕ, zero, suc}
 
--- A result is 0, or a refusal with level, involution and dart; a field that says nothing is 0.
+-- Scope: 'Numbers of refusal'. Accepted, or a number with level, involution and dart.
 pub data Verdict : Type 0 where
   accepted : Verdict
   refused : (number level involution dart : ℕ) → Verdict
@@ -17,13 +17,13 @@ abbrev pub ifAccepted : {A : Type 0} → Verdict → A → A → A
 ifAccepted accepted new old = new
 ifAccepted (refused number level involution dart) new old = old
 
--- the first verdict where it is a refusal, else the second
+-- Scope: 'Order of tests'. The first verdict where it is a refusal, else the second.
 infixr 5 _then_
 abbrev pub _then_ : Verdict → Verdict → Verdict
 accepted then v = v
 (refused number level involution dart) then v = refused number level involution dart
 
--- The first place found is the one reported: the first refusal of v 0, v 1, .., v (m − 1).
+-- Scope: 'First place found'. The first refusal of v 0, v 1, .., v (m − 1).
 unfoldable pub scan : ℕ → (ℕ → Verdict) → Verdict
 scan zero v = accepted
 scan (suc m) v = scan m v then v m
