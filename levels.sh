@@ -1,17 +1,18 @@
 #!/bin/bash
-# Builds the program levels and runs it on a record; --help says how. On x86-64, and on Arm under the toolchain's emulator.
+# Builds the program levels and runs it on a record; --help says how. On Arm it runs under the toolchain's emulator.
 set -u
 
 usage() {
     cat <<'END'
 ./levels.sh [RECORD]
 
-Runs the proved program levels on a record, or on samples/star.record if none is named. It prints n, N and h, and for each
-level its number, its survivors and the base entries that reading it takes; or one line: refused, then the number of the
-refusal, level, involution and dart (docs/SCOPE.md, 'Numbers of refusal').
+Runs the proved program levels on a record, or on samples/star.record if none is named. It prints n, N and h, and for
+each level its number, its survivors and the base entries that reading it takes; or one line: refused, then number,
+level, involution and dart (docs/SCOPE.md, 'Numbers of refusal').
 
-The first run proves the program and all that it uses, which takes minutes; a later one looks whether anything changed.
-Status: 0 printed, 1 the record is refused, 2 the record can't be read or the call is wrong, 3 the program isn't proved.
+The first run proves the program and all that it uses, which takes minutes; a later one looks whether anything
+changed. Status: 0 printed, 1 the record is refused, 2 the record can't be read or the call is wrong, 3 the program
+isn't proved.
 END
 }
 

@@ -26,8 +26,8 @@ say_lacking
 mkdir -p "$BUILD" || exit 2
 library "$BUILD"
 
-# The C library comes before the library measured: should that bring a memcpy of its own, both use the same one. The program
-# is static, so that no call of memset looks for it while instructions are counted; it takes nothing of libm.
+# The C library comes before the library measured: should that bring a memcpy of its own, both use the same one. The
+# program is static, so that no call of memset looks for it while instructions are counted; it takes nothing of libm.
 build() {
     local part
     gcc -O2 -shared -fPIC -o "$BUILD/libinsn.so" bench/insn.c || return 1

@@ -1,6 +1,6 @@
 #!/usr/bin/env python3
-"""Holds the pages of docs/ to the sources: public functions, theorems of one outcome, wrong programs, definitions and their
-lines, headings that are cited; and the C header to the crates: names of refusals, version, width.
+"""Holds the pages of docs/ to the sources: public functions, theorems of one outcome, wrong programs, definitions and
+their lines, headings that are cited; and the C header to the crates: names of refusals, version, width.
 
 tests/pages.py            says what differs, and fails if anything does
 tests/pages.py --write    writes docs/DEFINITIONS.md anew

@@ -8,8 +8,8 @@
 #   BUILD     where the programs are built, default target/tests
 #   EMULATE   set on x86-64 to do as on other machines: cross compiler and emulator
 #
-# A part whose tools are missing is left out by name. The last line counts the parts. The status is 0 if none failed, 1 if
-# one did, 2 if there is no library.
+# A part whose tools are missing is left out by name. The last line counts the parts. The status is 0 if none failed,
+# 1 if one did, 2 if there is no library.
 set -u
 source "$(dirname "$0")/tools.sh"
 COUNT=${COUNT:-1000000} SEED=${SEED:-1} PYRAMIDS=${PYRAMIDS:-5000} BUILD=${BUILD:-target/tests}
@@ -23,7 +23,9 @@ need libcgal-dev test -f /usr/include/CGAL/Generalized_map.h
 need cargo cargo --version
 say_lacking
 if command -v rustc >/dev/null && [ ! -d "$(rustc --print target-libdir --target $TARGET)" ]; then
-    printf 'missing for Rust: the target %s\n    rustup target add %s\n' $TARGET $TARGET >&2
+    install="dpkg --add-architecture amd64 && apt-get update && apt-get install libstd-rust-dev:amd64"
+    ! command -v rustup >/dev/null || install="rustup target add $TARGET"
+    printf 'missing for Rust: the target %s\n    %s\n' $TARGET "$install" >&2
     lacking+=("$TARGET")
 fi
 mkdir -p "$BUILD" || exit 2
@@ -90,7 +92,8 @@ if can "header as C99" "${for_c[@]}" &&
     report "header as C99" "$BUILD/header_c.txt" "${run[@]}" "$BUILD/header_c"
 fi
 if can "header as C++11" "${for_cxx[@]}" &&
-    built "header as C++11" "$CXX" -std=c++11 "${strict[@]}" -x c++ tests/header.c -x none "$LIB" -o "$BUILD/header_cxx"; then
+    built "header as C++11" \
+        "$CXX" -std=c++11 "${strict[@]}" -x c++ tests/header.c -x none "$LIB" -o "$BUILD/header_cxx"; then
     report "header as C++11" "$BUILD/header_cxx.txt" "${run[@]}" "$BUILD/header_cxx"
 fi
 
@@ -118,7 +121,8 @@ fi
 
 if can "independent implementation" "${for_cxx[@]}" && built "independent implementation" build_compare; then
     for name in small one two; do
-        vectors tests/vectors "$name" "independent implementation" "${run[@]}" "$BUILD/compare" --vectors "tests/vectors/$name.cases"
+        vectors tests/vectors "$name" "independent implementation" \
+            "${run[@]}" "$BUILD/compare" --vectors "tests/vectors/$name.cases"
     done
     report "random, large and damaged" "$BUILD/random.txt" "${run[@]}" "$BUILD/compare" --random "$SEED" "$COUNT"
 fi

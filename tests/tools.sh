@@ -35,7 +35,7 @@ need() {
 # What every program needs: a compiler, a C library to link, and on other machines an emulator.
 need_compiler() {
     need "${for_c[0]}" "$CC" --version
-    command -v "$CC" >/dev/null && need "${for_c[1]}" links
+    need "${for_c[1]}" links
     [ ${#run[@]} -eq 0 ] || need qemu-user "${run[0]}" --version
 }
 
@@ -78,7 +78,7 @@ library() {
         LIB=$1/standin.o
         echo "the plain C of bench/ stands in the library's place"
     elif [ ! -f "$LIB" ]; then
-        echo "there is no $LIB: 'rt staticlib zompelgors' makes target/staticlib/libzompelgors.a (LIB names another)" >&2
+        echo "there is no $LIB; 'rt staticlib zompelgors' makes target/staticlib/libzompelgors.a" >&2
         exit 2
     fi
 }
