@@ -1,4 +1,4 @@
--- The structs that the C interface returns, for each outcome: number, level, involution and dart are 0 where accepted, all else 0 in a refusal. Assumes nothing: these are definitions.
+-- The structs that the C interface returns, for each outcome: each begins with its refusal, which is 0 0 0 0 where accepted; all else is 0 in a refusal, but for a height. Assumes nothing: these are definitions.
 use mathlib.Core.Bool.{cond}
 use Prim.Native.Nat.{ℕ, _+_, _*_}
 use lib.Dec.{eqb}
