@@ -152,7 +152,8 @@ cargo_for_library() {
     shift
     (
         export ZOMPELGORS_LIB=$folder_of_library CARGO_TARGET_DIR=$cargo_target RUSTFLAGS="-D warnings"
-        export CARGO_TARGET_X86_64_UNKNOWN_LINUX_GNU_LINKER=$CC CARGO_TARGET_X86_64_UNKNOWN_LINUX_GNU_RUNNER="${run[*]}"
+        export CARGO_TARGET_X86_64_UNKNOWN_LINUX_GNU_LINKER=$CC
+        [ ${#run[@]} -eq 0 ] || export CARGO_TARGET_X86_64_UNKNOWN_LINUX_GNU_RUNNER="${run[*]}"
         cd rust && cargo "$command" --offline --target $TARGET "$@"
     )
 }
