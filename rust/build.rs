@@ -21,7 +21,7 @@ fn main() {
     let arch = env::var("CARGO_CFG_TARGET_ARCH").unwrap_or_default();
     if arch != "x86_64" {
         stop(&format!(
-            "{ARCHIVE} is for x86-64 only and can't be linked for {arch}"
+            "{ARCHIVE} is for x86-64 and can't be linked for {arch}: give cargo --target x86_64-unknown-linux-gnu"
         ));
     }
     let folder = folder();
