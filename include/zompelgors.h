@@ -49,7 +49,7 @@ extern "C" {
  * table, marks and words held before is not read, unless the pointer is const.
  *
  * Nothing is allocated and nothing is kept between calls, so calls may run at once on several threads where none writes
- * what another is lent. zg_check and zg_add take the most stack, about 17 KiB.
+ * what another is lent. zg_add and zg_mark_cells take the most stack, about 17 KiB.
  *
  * What is returned
  *

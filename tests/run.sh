@@ -117,6 +117,18 @@ if can "vectors, library" "${for_c[@]}" && built "vectors, library" build_answer
     fi
 fi
 
+# ---------------------------------------------------------------- the program levels
+
+levels=target/bin/levels
+if [ ! -f $levels ]; then
+    echo "program levels: left out, there is no $levels (rt check levels)"
+    left_out=$((left_out + 1))
+elif can "program levels" python3 "${for_c[@]}"; then
+    tests/levels.py answers small one two >"$BUILD/levels.answers"
+    same "program levels" "$BUILD/levels.out" "$BUILD/levels.answers" \
+        tests/levels.py run small one two -- "${run[@]}" $levels
+fi
+
 # ---------------------------------------------------------------- the independent implementation, and CGAL
 
 if can "independent implementation" "${for_cxx[@]}" && built "independent implementation" build_compare; then

@@ -5,9 +5,7 @@ and what it passes on, then those of its callees; read out of the code.   python
 It needs an objdump for x86-64: OBJDUMP names one, else the cross one is taken, or on x86-64 the machine's own."""
 import os, platform, re, shutil, subprocess, sys
 
-# How deep functions call themselves or each other: an unfolding once for each row, 0 to 4; a reading by levels once for
-# each level, 0 to 32.
-DEPTHS = {"reading::rows_to": 5}
+# How deep functions call themselves or each other: a reading by levels once for each level, 0 to 32.
 LEVELS = 33
 
 
@@ -72,7 +70,7 @@ def stack(name, functions):
     """Functions that call each other take, each time, at most all their frames together."""
     below = reached({name}, functions)
     cycle = {f for f in below if name in reached({f}, functions)} if name in below else set()
-    own = DEPTHS.get(name, LEVELS) * sum(frame(functions[f]) for f in cycle) or frame(functions[name])
+    own = LEVELS * sum(frame(functions[f]) for f in cycle) or frame(functions[name])
     calls = set().union(*(callees(functions[f], functions) for f in cycle | {name})) - cycle - {name}
     return own + max((stack(f, functions) for f in calls), default=0)
 

@@ -1,3 +1,4 @@
-pub mod Tests
+pub mod Bools
 pub mod Refusals
 pub mod Marked
+pub mod Rows

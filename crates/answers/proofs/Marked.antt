@@ -10,7 +10,7 @@ use Rattle.maps.specs.Sizes.{number4}
 use Rattle.maps.specs.Table.{each}
 use Rattle.maps.specs.Folded.{refusedMarks}
 use Rattle.maps.specs.MarksBack.{atMarks8}
-use Rattle.facts.proofs.Verdicts.{when-accepted, scan-accepted, scan-all, scan-first}
+use Rattle.laws.proofs.Verdicts.{when-accepted, scan-accepted, scan-all, scan-first}
 use Rattle.answers.specs.Marked.{marksRefusal}
 
 module _ (n N h : ℕ) (lambda delta : List ℕ) (l : ℕ) where

@@ -1,8 +1,9 @@
 -- Laws of refusals: an enum's refusal is a refusal, and what comes after it is not looked at. Assumes nothing.
-use mathlib.Core.Path.{_≡_, refl, sym, _∙_}
+use mathlib.Core.Path.{_≡_, refl, sym, ap, _∙_}
 use Prim.Native.Nat.{ℕ}
-use Rattle.maps.specs.Verdict.{Verdict, refused, _then_}
-use Rattle.answers.specs.Numbers.{refusalOf}
+use Rattle.maps.specs.Verdict.{Verdict, accepted, refused, ifAccepted, _then_}
+use Rattle.answers.specs.Numbers.{refusalOf, verdictOf}
+use Rattle.answers.specs.declared.Check.{Check}
 use Rattle.answers.specs.declared.Refusal.{Refusal}
 use Rattle.answers.specs.declared.Refusal.the-variants.{Dimension, Darts, Height, Length, Strays, NotTwice, NotCommuting, Marks, NotWhole, NotRemovable, NoLevel, NoDart, NoInvolution, NoPass, TooLong, EndsEarly, OtherTag, WrongLength, BytesAfter, Full}
 
@@ -41,3 +42,22 @@ refusal-refuses Full = refuses 20 0 0 0
 -- what comes after a refusal is not looked at
 pub refused-then : (r : Refusal) (v w : Verdict) → refusalOf r ≡ v → refusalOf r ≡ v then w
 refused-then r v w e = let x = refusal-refuses r in let f : v ≡ refused (x .number) (x .level) (x .involution) (x .dart) = sym e ∙ x .is in rw f (x .is)
+
+-- after a refusal, what is left is as it was
+pub refusal-keeps : {A : Type 0} (r : Refusal) (v : Verdict) (new old : A) → refusalOf r ≡ v → old ≡ ifAccepted v new old
+refusal-keeps r v new old e = let x = refusal-refuses r in let f : v ≡ refused (x .number) (x .level) (x .involution) (x .dart) = sym e ∙ x .is in rw f
+
+-- what a check that was taken apart said
+pub told : {check is : Check} {v : Verdict} → verdictOf check ≡ v → check ≡ is → verdictOf is ≡ v
+told e f = ap verdictOf (sym f) ∙ e
+
+-- a job that tests v and then w: it refuses what v refuses, what w refuses after an accepted v, and nothing else
+module _ (lent v w : Verdict) (tests : lent ≡ v then w) where
+  pub refused-first : (r : Refusal) → refusalOf r ≡ v → refusalOf r ≡ lent
+  refused-first r e = refused-then r v w e ∙ sym tests
+
+  pub refused-second : (r : Refusal) → accepted ≡ v → refusalOf r ≡ w → refusalOf r ≡ lent
+  refused-second r e f = f ∙ ap (λ (x : Verdict). x then w) e ∙ sym tests
+
+  pub accepted-both : accepted ≡ v → accepted ≡ w → accepted ≡ lent
+  accepted-both e f = f ∙ ap (λ (x : Verdict). x then w) e ∙ sym tests

@@ -1,2 +1,4 @@
 pub mod Numbers
 pub mod Marked
+pub mod Lent
+pub mod Rows

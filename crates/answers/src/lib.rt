@@ -1,22 +1,46 @@
-// What all jobs share: levels and dimensions, each way to be refused, and the tests of sizes and marks. Assumes nothing.
+// What all jobs share: levels, dimensions and marks, each way to be refused, and its numbers. Assumes nothing.
+mod marks; // marks.rt: what a mark lets a walk do, and number 8
+mod tables; // tables.rt: an entry of a table
+mod tests; // tests.rt: the tests of sizes, of exact lengths and of the level asked
+
+pub use marks::across;
+pub use marks::between;
+pub use marks::beyond;
+pub use marks::can_pass;
+pub use marks::has_beyond;
+pub use marks::is_mark;
+pub use marks::marks_refusal;
+pub use marks::marks_refused;
+pub use tables::at;
+pub use tables::there;
+pub use tests::asked;
+pub use tests::both;
+pub use tests::lent;
+pub use tests::pyramid_fits;
+pub use tests::row_fits;
+pub use tests::rows_fit;
+pub use tests::sizes;
 ghost use mathlib.Core.Path.{_≡_};
-ghost use mathlib.Core.Bool.{false};
-ghost use mathlib.Core.List.{[]};
-ghost use Prim.Native.Nat.{ℕ, _<_};
-ghost use lib.ListN.{length};
-ghost use Rattle.maps.specs.Verdict.{scan};
-ghost use Rattle.maps.specs.Sizes.{sizes as sizesOf};
-ghost use Rattle.maps.specs.Table.{each};
-ghost use Rattle.maps.specs.Folded.{refusedMarks};
-ghost use Rattle.maps.specs.MarksBack.{atMarks8};
-ghost use Rattle.answers.specs.Numbers.{refusalOf, verdictOf, said};
-ghost use Rattle.answers.specs.Marked.{marksRefusal};
+ghost use Rattle.answers.specs.Numbers.{refusalOf, said};
 
 // A level: Λ, h, or a level asked.
 pub struct Level(pub u8);
 
-// A dimension: Δ, n, or an involution.
+// A dimension: n, an involution, or the dimension of a cell.
 pub struct Dim(pub u8);
+
+// A mark: Δ, or a byte of a mark row.
+pub struct Mark(pub u8);
+
+// The two rows between which a mark lets a walk pass; the first is its dimension.
+pub struct Passage(pub Dim, pub Dim);
+
+// What a reading is asked: a level, an involution and a dart; 0 where a job is asked less.
+pub struct Question {
+    pub level: Level,
+    pub involution: Dim,
+    pub dart: u16,
+}
 
 // Each way to be refused. specs/Numbers gives the document's number and values for each.
 pub enum Refusal {
@@ -46,92 +70,6 @@ pub enum Refusal {
 pub enum Check {
     Accepted,
     Refused(Refusal),
-}
-
-// Numbers 1, 2 and 3.
-pub fn sizes(n: Dim, darts: u16, h: Level) -> Check
-    ensures { λ r. ⌜ verdictOf r ≡ sizesOf (n .0) darts (h .0) ⌝ }
-{
-    if n.0 < 1 {
-        return Check::Refused(Refusal::Dimension);
-    }
-    if 4 < n.0 {
-        return Check::Refused(Refusal::Dimension);
-    }
-    if darts < 1 {
-        return Check::Refused(Refusal::Darts);
-    }
-    if 4096 < darts {
-        return Check::Refused(Refusal::Darts);
-    }
-    if 32 < h.0 {
-        return Check::Refused(Refusal::Height);
-    }
-    Check::Accepted
-}
-
-// Number 8 of one dart: are its marks refused?
-pub fn marks_refused(n: Dim, h: Level, lambda: Level, delta: Dim) -> bool
-    ensures { λ r. ⌜ r ≡ refusedMarks (n .0) (h .0) (lambda .0) (delta .0) ⌝ }
-{
-    if lambda.0 < h.0 {
-        return n.0 <= delta.0;
-    }
-    if h.0 < lambda.0 {
-        return true;
-    }
-    delta.0 != n.0
-}
-
-// Are the marks of any dart refused? No branch for each dart, so that many are tested at once.
-fn any_refused(n: Dim, h: Level, lambda: &[u8], delta: &[u8]) -> bool
-    requires { ⌜ length (now delta) ≡ length (now lambda) ⌝ }
-    ensures { λ r. ⌜ (r ≡ false → (x : ℕ) → x < length (now (lambda .entry)) → refusedMarks (n .0) (h .0) (each (now (lambda .entry)) x) (each (now (delta .entry)) x) ≡ false) ⌝ }
-{
-    let mut any = false;
-    for at in 0..lambda.len() {
-        let refused = marks_refused(n, h, Level(lambda[at]), Dim(delta[at]));
-        any = any | refused;
-    }
-    any
-}
-
-// The first dart whose marks are refused.
-fn first_refused(n: Dim, darts: u16, h: Level, lambda: &[u8], delta: &[u8], level: Level) -> Check
-    requires { ⌜ (length (now lambda) ≡ darts) × (length (now delta) ≡ darts) ⌝ }
-    ensures { λ r. ⌜ verdictOf r ≡ scan darts (atMarks8 (n .0) darts (h .0) (now (lambda .entry)) (now (delta .entry)) (level .0) []) ⌝ }
-{
-    for d in 0..darts {
-        let at = d as usize;
-        if marks_refused(n, h, Level(lambda[at]), Dim(delta[at])) {
-            return Check::Refused(Refusal::Marks(level, Dim(0), d));
-        }
-    }
-    Check::Accepted
-}
-
-// Number 8 over all darts; the dart is sought only if there is one.
-pub fn marks_refusal(
-    n: Dim,
-    darts: u16,
-    h: Level,
-    lambda: &[u8],
-    delta: &[u8],
-    level: Level,
-) -> Check
-    ensures { λ r. ⌜ verdictOf r ≡ marksRefusal (n .0) darts (h .0) (now (lambda .entry)) (now (delta .entry)) (level .0) ⌝ }
-{
-    let width = darts as usize;
-    if lambda.len() != width {
-        return Check::Refused(Refusal::Length);
-    }
-    if delta.len() != width {
-        return Check::Refused(Refusal::Length);
-    }
-    if any_refused(n, h, lambda, delta) {
-        return first_refused(n, darts, h, lambda, delta, level);
-    }
-    Check::Accepted
 }
 
 // A refusal as the document prints it; all four are 0 where accepted.

@@ -1,32 +1,30 @@
 -- Where the rows of a table lie, where 5, 6 and 7 are first refused, and what a 5 that is not refused tells of the entries. Assumes nothing.
-use mathlib.Core.Path.{_≡_, sym, subst, _∙_}
+use mathlib.Core.Path.{_≡_, sym, subst}
 use mathlib.Core.Bool.{Bool, true, false, _&&_}
 use mathlib.Core.List.{List}
-use Prim.Native.Nat.{ℕ, suc, _+_, _*_, _≤_, _<_, zero-le}
+use Prim.Native.Nat.{ℕ, suc, _+_, _*_, _≤_, _<_}
 use native.Mathlib.Nat.{mul-le-mul-right}
 use native.Mathlib.Omega.{arith}
 use lib.ListN.{length, getD}
 use lib.Dec.{ltb}
-use borrow.Author.Tests.{ltb-true, lt-ltb, le-ltb, not-false}
+use borrow.Author.Tests.{ltb-true, lt-ltb, le-ltb, eqb-true, not-false}
 use Rattle.maps.specs.Verdict.{Verdict, accepted, refused, when, scan}
-use Rattle.maps.specs.Sizes.{sizes}
+use Rattle.maps.specs.Sizes.{hasLength}
 use Rattle.maps.specs.Table.{entry}
-use Rattle.maps.specs.Check.{at5, at7, check5, check7}
-use Rattle.facts.proofs.Verdicts.{when-accepted, scan-accepted, scan-all, scan-first, and-both, and-false}
-use Rattle.facts.proofs.Sizes.{sizes-sized}
-use Rattle.facts.proofs.Tables.{next-row, table-size, in-table}
-use Rattle.bases.specs.InTable.{Row, Rows, presentIf, straysIn, notCommutingIn, check5In, check7In}
-
--- accepted sizes: the exact length is small, and the code's n + 1 is the definition's
-pub table-fits : (n N : ℕ) → sizes n N 0 ≡ accepted → ((n + 1) * N ≤ 20480) × (suc n * N ≡ (n + 1) * N)
-table-fits n N e =
-    let z = sizes-sized n N 0 e in
-    let s = table-size n N 0 (z .dimension) (z .darts) zero-le in
-    (omega arith, s .2)
+use Rattle.maps.specs.Check.{at5, at6, at7, check5, check6, check7}
+use Rattle.laws.proofs.Verdicts.{when-accepted, scan-accepted, scan-all, scan-first, and-both, and-false}
+use Rattle.laws.proofs.Sizes.{lent-sized}
+use Rattle.laws.proofs.Tables.{next-row, table-size, in-table}
+use Rattle.answers.specs.Lent.{lentOf}
+use Rattle.answers.specs.Rows.{Rows}
+use Rattle.bases.specs.declared.Test.{Test}
+use Rattle.bases.specs.declared.Test.the-variants.{Strays, NotTwice}
+use Rattle.bases.specs.InTable.{Row, presentIf, straysIn, notTwiceIn, notCommutingIn, check5In, check7In}
+use Rattle.bases.specs.Places.{numberOf, dueAt, soughtIn}
 
 -- a table of the exact length
-pub lent-rows : (n N : ℕ) (table : List ℕ) → sizes n N 0 ≡ accepted → length table ≡ (n + 1) * N → Rows n N table
-lent-rows n N table e h = let z = sizes-sized n N 0 e in record { dimension = z .dimension; darts = z .darts; exact = h ∙ sym (table-fits n N e .1) }
+pub lent-rows : (n N : ℕ) (table : List ℕ) → lentOf n N 0 (hasLength table (suc n * N)) ≡ accepted → Rows n N table
+lent-rows n N table e = let r = lent-sized n N 0 (hasLength table (suc n * N)) e in record { dimension = r .0 .dimension; darts = r .0 .darts; exact = eqb-true (length table) (suc n * N) (r .1) }
 
 -- each of its rows lies in it
 pub rows-row : (n N i : ℕ) (table : List ℕ) → Rows n N table → i ≤ n → Row N table i
@@ -35,27 +33,42 @@ rows-row n N i table r li =
     let s = table-size n N i (r .dimension) (r .darts) li in
     record { whole = omega (arith, next-row i N); small = omega arith }
 
+-- each entry of a row lies in the table
+pub row-entry : {N i : ℕ} {table : List ℕ} → Row N table i → (d : ℕ) → d < N → (i * N + d < length table) × (length table ≤ 20480)
+row-entry r d l = (omega (arith, r .whole), r .small)
+
 -- rows, then darts: the test of each place, and the row that a refusal names
 module _ (number N : ℕ) (row : ℕ → ℕ) (test : ℕ → ℕ → Bool) where
   abbrev place : ℕ → ℕ → Verdict
   place x d = when (test x d) (refused number 0 (row x) d)
 
   -- no place of the first m rows is refused
-  pub rows-none : (m : ℕ) → ((x : ℕ) → x < m → (d : ℕ) → d < N → test x d ≡ false) → scan m (λ x. scan N (place x)) ≡ accepted
+  rows-none : (m : ℕ) → ((x : ℕ) → x < m → (d : ℕ) → d < N → test x d ≡ false) → scan m (λ x. scan N (place x)) ≡ accepted
   rows-none m h = scan-all m (λ x. scan N (place x)) (λ x l. scan-all N (place x) (λ d k. rw (h x l d k)))
 
   -- one place is, and none before it
-  pub rows-first : (m x d : ℕ) → x < m → d < N → ((k : ℕ) → k < x → (e : ℕ) → e < N → test k e ≡ false) → ((e : ℕ) → e < d → test x e ≡ false) → test x d ≡ true
+  rows-first : (m x d : ℕ) → x < m → d < N → ((k : ℕ) → k < x → (e : ℕ) → e < N → test k e ≡ false) → ((e : ℕ) → e < d → test x e ≡ false) → test x d ≡ true
       → scan m (λ x. scan N (place x)) ≡ refused number 0 (row x) d
   rows-first m x d lx ld rows darts t =
       scan-first m (λ x. scan N (place x)) x number 0 (row x) d lx (rows-none x rows)
       (scan-first N (place x) d number 0 (row x) d ld (scan-all d (place x) (λ e l. rw (darts e l))) (rw t))
 
+-- what is sought over rows, then darts, is refused nowhere; or at one place, and at none before it
+pub sought-none : (test : Test) (explicit : Bool) (n N : ℕ) (table : List ℕ) → ((i : ℕ) → i < suc n → (d : ℕ) → d < N → dueAt test explicit N table i d ≡ false) → soughtIn test explicit n N table ≡ accepted
+unfolding at5 at6 check5 check6
+sought-none Strays explicit n N table = rows-none 5 N (λ i. i) (straysIn explicit N table) (suc n)
+sought-none NotTwice explicit n N table = rows-none 6 N (λ i. i) (notTwiceIn explicit N table) (suc n)
+
+pub sought-first : (test : Test) (explicit : Bool) (n N : ℕ) (table : List ℕ) (i d : ℕ) → i < suc n → d < N → ((k : ℕ) → k < i → (e : ℕ) → e < N → dueAt test explicit N table k e ≡ false)
+    → ((e : ℕ) → e < d → dueAt test explicit N table i e ≡ false) → dueAt test explicit N table i d ≡ true → soughtIn test explicit n N table ≡ refused (numberOf test) 0 i d
+unfolding at5 at6 check5 check6
+sought-first Strays explicit n N table = rows-first 5 N (λ i. i) (straysIn explicit N table) (suc n)
+sought-first NotTwice explicit n N table = rows-first 6 N (λ i. i) (notTwiceIn explicit N table) (suc n)
+
 -- where every entry of a base is a dart, 5 is not refused
 pub base-none : (explicit : Bool) (n N : ℕ) (table : List ℕ) → explicit ≡ false → length table ≡ suc n * N → ((k : ℕ) → k < length table → getD table k 0 < N) → check5In explicit n N table ≡ accepted
-unfolding at5 check5
 base-none explicit n N table base long h =
-    rows-none 5 N (λ x. x) (straysIn explicit N table) (suc n) (λ i li d ld.
+    sought-none Strays explicit n N table (λ i li d ld.
     rw (base, lt-ltb (entry N table i d) N (h (i * N + d) (subst (λ m. i * N + d < m) (sym long) (in-table n N i d (omega arith) ld)))))
 
 module _ (explicit : Bool) (n N : ℕ) (table : List ℕ) where

@@ -1,5 +1,4 @@
 -- The checks of a map, of a table that holds a base or an explicit level. Assumes nothing: these are definitions.
-use mathlib.Core.Path.{_≡_}
 use mathlib.Core.Bool.{Bool, true, cond}
 use mathlib.Core.List.{List}
 use Prim.Native.Nat.{ℕ, suc, _+_, _*_, _≤_}
@@ -14,12 +13,6 @@ use Rattle.maps.specs.CheckBase.{present}
 pub record Row (N : ℕ) (table : List ℕ) (i : ℕ) : Type 0 where
   pub whole : i * N + N ≤ length table
   pub small : length table ≤ 20480
-
--- the table has n+1 rows of N entries, n and N in their bounds
-pub record Rows (n N : ℕ) (table : List ℕ) : Type 0 where
-  pub dimension : n ≤ 4
-  pub darts : N ≤ 4096
-  pub exact : length table ≡ suc n * N
 
 -- In a base every dart is present; in an explicit level, one whose row 0 holds another number than 65,535.
 abbrev pub presentIf : Bool → ℕ → List ℕ → ℕ → Bool

@@ -11,8 +11,9 @@ ghost use Rattle.maps.specs.Verdict.{accepted};
 ghost use Rattle.maps.specs.Table.{entry};
 ghost use Rattle.maps.specs.CheckBase.{checkBase, checkExplicit};
 ghost use Rattle.answers.specs.Numbers.{verdictOf};
-ghost use Rattle.bases.specs.Places.{refusedAt};
-ghost use Rattle.bases.specs.InTable.{Row, Rows, presentIf, straysIn, notTwiceIn, notCommutingIn, check5In, check6In, check7In, checkMapIn, checkIn};
+ghost use Rattle.answers.specs.Rows.{Rows};
+ghost use Rattle.bases.specs.InTable.{Row, presentIf, straysIn, notTwiceIn, notCommutingIn, check5In, check7In, checkMapIn, checkIn};
+ghost use Rattle.bases.specs.Places.{refusedAt, numberOf, dueAt, soughtIn};
 
 // "The first place found is the one reported": its row and dart.
 enum Place {
@@ -20,21 +21,19 @@ enum Place {
     At(Dim, u16),
 }
 
-// The entry of dart d in row i.
-fn at(table: &[u16], darts: u16, i: Dim, d: u16) -> u16
-    requires { ⌜ Row darts (now table) (i .0) × (d < darts) ⌝ }
-    ensures { λ r. ⌜ r ≡ entry darts (now (table .entry)) (i .0) d ⌝ }
-{
-    table[i.0 as usize * darts as usize + d as usize]
+// What is sought over rows, then darts: number 5, or number 6.
+enum Test {
+    Strays,
+    NotTwice,
 }
 
-// Is dart d present? In a base every dart is; in an explicit level, one whose row 0 holds another number than 65,535.
+// Is dart d present? In a base every dart is.
 fn there(explicit: bool, table: &[u16], darts: u16, d: u16) -> bool
     requires { ⌜ Row darts (now table) 0 × (d < darts) ⌝ }
     ensures { λ r. ⌜ r ≡ presentIf explicit darts (now (table .entry)) d ⌝ }
 {
     if explicit {
-        return at(table, darts, Dim(0), d) != 65535;
+        return answers::there(darts, table, d);
     }
     true
 }
@@ -44,7 +43,7 @@ fn strays(explicit: bool, table: &[u16], darts: u16, i: Dim, d: u16) -> bool
     requires { ⌜ Row darts (now table) 0 × Row darts (now table) (i .0) × (d < darts) ⌝ }
     ensures { λ r. ⌜ r ≡ straysIn explicit darts (now (table .entry)) (i .0) d ⌝ }
 {
-    let e = at(table, darts, i, d);
+    let e = answers::at(darts, table, i, d);
     if there(explicit, table, darts, d) {
         if darts <= e {
             return true;
@@ -60,8 +59,8 @@ fn not_twice(explicit: bool, table: &[u16], darts: u16, i: Dim, d: u16) -> bool
     ensures { λ r. ⌜ r ≡ notTwiceIn explicit darts (now (table .entry)) (i .0) d ⌝ }
 {
     if there(explicit, table, darts, d) {
-        let e = at(table, darts, i, d);
-        return at(table, darts, i, e) != d;
+        let e = answers::at(darts, table, i, d);
+        return answers::at(darts, table, i, e) != d;
     }
     false
 }
@@ -72,22 +71,33 @@ fn not_commuting(explicit: bool, table: &[u16], darts: u16, i: Dim, j: Dim, d: u
     ensures { λ r. ⌜ r ≡ notCommutingIn explicit darts (now (table .entry)) (i .0) (j .0) d ⌝ }
 {
     if there(explicit, table, darts, d) {
-        let by_i = at(table, darts, i, d);
-        let by_j = at(table, darts, j, d);
-        return at(table, darts, j, by_i) != at(table, darts, i, by_j);
+        let by_i = answers::at(darts, table, i, d);
+        let by_j = answers::at(darts, table, j, d);
+        return answers::at(darts, table, j, by_i) != answers::at(darts, table, i, by_j);
     }
     false
 }
 
-// Number 5, sought over rows, then darts.
-fn number5(explicit: bool, table: &[u16], n: Dim, darts: u16) -> Place
-    requires { ⌜ Rows (n .0) darts (now table) ⌝ }
-    ensures { λ r. ⌜ refusedAt 5 r ≡ check5In explicit (n .0) darts (now (table .entry)) ⌝ }
+// Is the number that a test seeks due at row i of dart d?
+fn due(test: Test, explicit: bool, table: &[u16], darts: u16, i: Dim, d: u16) -> bool
+    requires { ⌜ Row darts (now table) 0 × Row darts (now table) (i .0) × (d < darts) × (test ≡ Test.NotTwice → presentIf explicit darts (now table) d ≡ true → entry darts (now table) (i .0) d < darts) ⌝ }
+    ensures { λ r. ⌜ r ≡ dueAt test explicit darts (now (table .entry)) (i .0) d ⌝ }
+{
+    match test {
+        Test::Strays => strays(explicit, table, darts, i, d),
+        Test::NotTwice => not_twice(explicit, table, darts, i, d),
+    }
+}
+
+// Number 5 or 6, sought over rows, then darts; 6 where 5 is not refused, so that each entry of a dart present is a dart.
+fn sought(test: Test, explicit: bool, table: &[u16], n: Dim, darts: u16) -> Place
+    requires { ⌜ Rows (n .0) darts (now table) × (test ≡ Test.NotTwice → check5In explicit (n .0) darts (now table) ≡ accepted) ⌝ }
+    ensures { λ r. ⌜ refusedAt (numberOf test) r ≡ soughtIn test explicit (n .0) darts (now (table .entry)) ⌝ }
 {
     let mut found = Place::Nowhere;
     'rows: for i in 0..n.0 + 1 {
         for d in 0..darts {
-            if strays(explicit, table, darts, Dim(i), d) {
+            if due(test, explicit, table, darts, Dim(i), d) {
                 found = Place::At(Dim(i), d);
                 break 'rows;
             }
@@ -120,24 +130,7 @@ fn first_stray(explicit: bool, table: &[u16], n: Dim, darts: u16) -> Place
             return Place::Nowhere;
         }
     }
-    number5(explicit, table, n, darts)
-}
-
-// Number 6, sought over rows, then darts; 5 is not refused, so that each entry of a dart present is a dart.
-fn number6(explicit: bool, table: &[u16], n: Dim, darts: u16) -> Place
-    requires { ⌜ Rows (n .0) darts (now table) × (check5In explicit (n .0) darts (now table) ≡ accepted) ⌝ }
-    ensures { λ r. ⌜ refusedAt 6 r ≡ check6In explicit (n .0) darts (now (table .entry)) ⌝ }
-{
-    let mut found = Place::Nowhere;
-    'rows: for i in 0..n.0 + 1 {
-        for d in 0..darts {
-            if not_twice(explicit, table, darts, Dim(i), d) {
-                found = Place::At(Dim(i), d);
-                break 'rows;
-            }
-        }
-    }
-    found
+    sought(Test::Strays, explicit, table, n, darts)
 }
 
 // Number 7, sought over i, j, darts; pairs with j < i+2 are never refused.
@@ -167,7 +160,7 @@ fn map_refused(explicit: bool, table: &[u16], n: Dim, darts: u16) -> Check
     if let Place::At(i, d) = first_stray(explicit, table, n, darts) {
         return Check::Refused(Refusal::Strays(Level(0), i, d));
     }
-    if let Place::At(i, d) = number6(explicit, table, n, darts) {
+    if let Place::At(i, d) = sought(Test::NotTwice, explicit, table, n, darts) {
         return Check::Refused(Refusal::NotTwice(i, d));
     }
     if let Place::At(i, d) = number7(explicit, table, n, darts) {
@@ -180,11 +173,9 @@ fn map_refused(explicit: bool, table: &[u16], n: Dim, darts: u16) -> Check
 fn check_table(explicit: bool, table: &[u16], n: Dim, darts: u16) -> Check
     ensures { λ r. ⌜ verdictOf r ≡ checkIn explicit (n .0) darts (now (table .entry)) ⌝ }
 {
-    if let Check::Refused(r) = answers::sizes(n, darts, Level(0)) {
+    let fit = answers::rows_fit(n, darts, table.len());
+    if let Check::Refused(r) = answers::lent(n, darts, Level(0), fit) {
         return Check::Refused(r);
-    }
-    if table.len() != (n.0 as usize + 1) * darts as usize {
-        return Check::Refused(Refusal::Length);
     }
     map_refused(explicit, table, n, darts)
 }

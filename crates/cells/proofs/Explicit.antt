@@ -1,34 +1,52 @@
--- What an accepted explicit level tells: it is valid, and its entries lie in the table. Assumes nothing.
-use mathlib.Core.Path.{_≡_}
-use mathlib.Core.Bool.{true}
+-- What an accepted explicit level tells: it is valid, and its δ-cells are orbits by the rows but δ. Assumes nothing.
+use mathlib.Core.Path.{_≡_, sym, _∙_}
+use mathlib.Core.Bool.{Bool, not}
 use mathlib.Core.List.{List}
-use Prim.Native.Nat.{ℕ, suc, _+_, _*_, _≤_, _<_, zero-le}
-use native.Mathlib.Nat.{mul-le-mul-right}
-use native.Mathlib.Omega.{arith}
-use lib.ListN.{length}
+use Prim.Native.Nat.{ℕ, _≤_, _<_}
+use lib.Dec.{eqb}
+use borrow.Author.Tests.{eqb-false, ne-eqb, not-true}
 use Rattle.maps.specs.Map.{Valid}
+use Rattle.maps.specs.Cell.{Cell, itself, onward}
+use Rattle.maps.specs.Orbit.{Orbit, here, further, TwoWay}
 use Rattle.maps.specs.Table.{entry}
 use Rattle.maps.specs.CheckBase.{present}
 use Rattle.facts.proofs.Checks.{There, map-sound}
-use Rattle.facts.proofs.Tables.{in-table, table-size}
-use Rattle.cells.specs.Orbits.{ExplicitLevel}
+use Rattle.orbits.specs.Orbits.{Closed, Ready}
+use Rattle.orbits.proofs.Orbits.{orbit-present}
+use Rattle.cells.specs.Marked.{ExplicitLevel}
+
+-- the darts present
+abbrev pub Present : ℕ → ℕ → List ℕ → ℕ → Type 0
+Present n N table = There (entry N table) n N (present N table)
 
 module _ (n N : ℕ) (table : List ℕ) (level : ExplicitLevel n N table) where
-  pub level-valid : Valid (entry N table) n (There (entry N table) n N (present N table))
+  pub level-valid : Valid (entry N table) n (Present n N table)
   level-valid = map-sound (entry N table) n N (present N table) (level .accepts) .valid
 
-  pub level-entry : (i d : ℕ) → i ≤ n → d < N → (i * N + d < length table) × (length table ≤ 20480)
-  level-entry i d li ld =
-      let s = table-size n N i (level .dimension) (level .darts) li in
-      (omega (arith, level .exact, in-table n N i d li ld), omega (arith, level .exact, s .1))
+  module _ (δ : ℕ) (uses : ℕ → ℕ → Bool) (others : (j d : ℕ) → j ≤ n → d < N → uses j d ≡ not (eqb j δ)) where
+    pub level-two-way : TwoWay (entry N table) n (Present n N table) uses
+    level-two-way = record {
+      inside = λ j d lj p u. level-valid .inside j d lj p;
+      twice = λ j d lj p u. level-valid .twice j d lj p;
+      both = λ j d lj p u. others j (entry N table j d) lj (level-valid .inside j d lj p .0) ∙ sym (others j d lj (p .0)) ∙ u;
+    }
 
-  -- row 0 lies in it
-  pub level-row : (N ≤ length table) × (length table ≤ 20480)
-  level-row =
-      let s = table-size n N 0 (level .dimension) (level .darts) zero-le in
-      let m : 1 * N ≤ suc n * N = mul-le-mul-right N (omega arith) in
-      (omega (arith, level .exact), omega (arith, level .exact, s .1))
+    -- the δ-cell of a dart present is its orbit
+    pub cell-orbit : (x y : ℕ) → Present n N table x → Cell (entry N table) n δ x y → Orbit (entry N table) n uses x y × Present n N table y
+    cell-orbit x _ p itself = (here, p)
+    cell-orbit x _ p (onward d j c lj ne) = let r = cell-orbit x d p c in (further d j (r .0) lj (others j d lj (r .1 .0) ∙ rw (ne-eqb j δ ne)), level-valid .inside j d lj (r .1))
 
-  -- a dart present has neighbours that are present
-  pub level-inside : (d : ℕ) → d < N → present N table d ≡ true → (j : ℕ) → j ≤ n → entry N table j d < N
-  level-inside d ld p j lj = level-valid .inside j d lj (ld, p) .0
+    pub orbit-cell : (x y : ℕ) → Present n N table x → Orbit (entry N table) n uses x y → Cell (entry N table) n δ x y
+    orbit-cell x _ p here = itself
+    orbit-cell x _ p (further d j o lj u) =
+        let q = orbit-present (entry N table) n uses (Present n N table) level-two-way x d p o in
+        onward d j (orbit-cell x d p o) lj (eqb-false j δ (not-true (eqb j δ) (sym (others j d lj (q .0)) ∙ u)))
+
+    -- a search may begin at it
+    pub level-ready : (d : ℕ) (within : ℕ → Bool) → Present n N table d → Closed (entry N table) n uses within → Ready n N table uses d within
+    level-ready d within p c = record {
+      rows = level .rows;
+      first = p .0;
+      inside = λ e j o lj u. level-valid .inside j e lj (orbit-present (entry N table) n uses (Present n N table) level-two-way d e p o) .0;
+      closed = c;
+    }

@@ -1,25 +1,32 @@
 -- On an accepted level the marked row is a kernel: whole cells, removable, and no removable cell is left out. Assumes nothing.
-use mathlib.Core.Path.{_≡_, sym, _∙_}
+use mathlib.Core.Path.{_≡_, sym, ap, _∙_}
 use mathlib.Core.Logic.{inl, inr}
-use mathlib.Core.Bool.{true, _&&_, not}
+use mathlib.Core.Bool.{true, true≢false}
 use mathlib.Core.List.{List}
-use Prim.Native.Nat.{ℕ, suc, _*_, _≤_, _<_}
+use Prim.Native.Nat.{ℕ, suc, _+_, _*_, _<_}
 use native.Mathlib.Omega.{arith}
-use lib.Dec.{ltb}
+use lib.ListN.{length}
 use borrow.Author.Tests.{ltb-true}
-use Rattle.maps.specs.Verdict.{accepted, refused, when, _then_}
-use Rattle.maps.specs.Sizes.{sizes, number4, hasLength}
+use Rattle.maps.specs.Verdict.{accepted}
 use Rattle.maps.specs.Map.{Involutions}
 use Rattle.maps.specs.Cell.{Cell, itself, onward}
-use Rattle.maps.specs.Mark.{isMark, stay}
+use Rattle.maps.specs.Mark.{isMark}
 use Rattle.maps.specs.Kernel.{Removable, Kernel}
 use Rattle.maps.specs.Table.{entry, each}
-use Rattle.maps.specs.Check.{checkMap, checkKernel}
+use Rattle.maps.specs.Check.{checkKernel}
 use Rattle.maps.specs.CheckBase.{present}
+use Rattle.maps.specs.Folded.{levelTable}
+use Rattle.maps.specs.CheckPyramid.{checkLent, checkLeaves}
+use Rattle.maps.specs.AddLevel.{addLent}
 use Rattle.maps.specs.MarkCells.{CellsMarked, markLent, MarkLeaves}
-use Rattle.facts.proofs.Verdicts.{then-accepted}
-use Rattle.facts.proofs.Sizes.{sizes-sized}
-use Rattle.facts.proofs.Checks.{There, map-sound, sound-kernel}
+use Rattle.laws.proofs.Marks.{is-removal, stay-none, removed-rows}
+use Rattle.facts.proofs.Commuting.{commutes-kernel}
+use Rattle.facts.proofs.Checks.{There, sound-kernel}
+use Rattle.facts.proofs.AcceptedJobs.{accepted-table}
+use Rattle.facts.proofs.ExactJobs.{top-row-added}
+use Rattle.cells.specs.Marked.{ExplicitLevel}
+use Rattle.cells.proofs.Explicit.{level-valid}
+use Rattle.cells.proofs.Lent.{accepted-level}
 
 cell-join : (a : Involutions) (n i x y z : ℕ) → Cell a n i x y → Cell a n i y z → Cell a n i x z
 cell-join a n i x y _ c itself = c
@@ -30,43 +37,51 @@ module _ (n N : ℕ) (table : List ℕ) (δ : ℕ) (out : List ℕ) (marked : Ce
   pub marked-all : (d : ℕ) → d < N → present N table d ≡ true → Removable (entry N table) n δ d → each out d ≡ δ
   marked-all d ld p ok = elim (marked .mark d ld) [ inl w ↦ w .2 | inr w ↦ absurd (w .0 (p, ok)) ]
 
-  module _ (ln : n ≤ stay) (level : checkMap (entry N table) n N (present N table) ≡ accepted) where
+  module _ (level : ExplicitLevel n N table) where
     -- only removable cells are marked
     pub marked-only : (d : ℕ) → d < N → isMark n (each out d) ≡ true → (present N table d ≡ true) × Removable (entry N table) n δ d × (each out d ≡ δ)
-    marked-only d ld q = elim (marked .mark d ld) [ inl w ↦ w | inr w ↦ absurd (omega (arith, ltb-true (each out d) n q, w .1)) ]
+    marked-only d ld q = elim (marked .mark d ld) [ inl w ↦ w | inr w ↦ absurd (true≢false (sym q ∙ ap (isMark n) (w .1) ∙ stay-none n (omega (arith, level .rows .dimension)))) ]
 
     pub marked-kernel : Kernel (entry N table) n (There (entry N table) n N (present N table)) (each out)
-    marked-kernel = record {
-      whole = λ d j p q lj ne.
-          let w = marked-only d (p .0) q in
-          let v = map-sound (entry N table) n N (present N table) level .valid in
-          let there = v .inside j d lj p in
-          let next : Cell (entry N table) n δ d (entry N table j d) = onward d j itself lj (λ e. ne (e ∙ sym (w .2))) in
-          marked-all (entry N table j d) (there .0) (there .1) (λ f e c. w .1 f e (cell-join (entry N table) n δ d (entry N table j d) e next c)) ∙ sym (w .2);
-      removable = λ d p q. let w = marked-only d (p .0) q in rw (w .2) (w .1);
-    }
+    marked-kernel =
+        let v = level-valid n N table level in
+        commutes-kernel (entry N table) n (There (entry N table) n N (present N table)) (each out) (v .inside)
+        (λ d j p q lj ne.
+        let w = marked-only d (p .0) q in
+        let there = v .inside j d lj p in
+        let next : Cell (entry N table) n δ d (entry N table j d) = onward d j itself lj (λ e. ne (e ∙ sym (ap (λ (x : ℕ × ℕ). x .0) (removed-rows n (each out d) .0) ∙ w .2))) in
+        marked-all (entry N table j d) (there .0) (there .1) (λ f e c. w .1 f e (cell-join (entry N table) n δ d (entry N table j d) e next c)) ∙ sym (w .2))
+        (λ d p q h.
+        let w = marked-only d (p .0) q in
+        let r = removed-rows n (each out d) in
+        let l = ltb-true (each out d + 1) n (sym (r .1) ∙ h) in
+        rw (r .0, r .2, w .2) (w .1 (omega (arith, w .2)) d itself))
 
     -- so the check of a kernel accepts it, at any level
     pub marked-accepted : (l : ℕ) → checkKernel (entry N table) n N (each out) l ≡ accepted
     marked-accepted l =
-        let v = map-sound (entry N table) n N (present N table) level .valid in
+        let v = level-valid n N table level in
         sound-kernel (entry N table) n N (each out) l (There (entry N table) n N (present N table)) v (λ d p. p .0) (λ d ld q. (ld, marked-only d ld q .0)) marked-kernel
-
--- what the job's acceptance tells of the level
-lent-tells : (n N : ℕ) (table : List ℕ) (δ : ℕ) (found : List ℕ) → markLent n N table δ found ≡ accepted → (n ≤ stay) × (checkMap (entry N table) n N (present N table) ≡ accepted)
-unfolding markLent
-lent-tells n N table δ found e =
-    let map = checkMap (entry N table) n N (present N table) in
-    let top = when (not (ltb δ n)) (refused 13 0 δ 0) in
-    let long = number4 (hasLength table (suc n * N) && hasLength found N) in
-    let r = then-accepted (sizes n N 0) (long then (top then map)) e in
-    let s = then-accepted long (top then map) (r .1) in
-    (omega (arith, sizes-sized n N 0 (r .0) .dimension), then-accepted top map (s .1) .1)
 
 -- what the job leaves where it accepts is a kernel, and is accepted as one
 pub job-kernel : (n N : ℕ) (table : List ℕ) (δ : ℕ) (found out : List ℕ) → markLent n N table δ found ≡ accepted → MarkLeaves n N table δ found (markLent n N table δ found) out
     → Kernel (entry N table) n (There (entry N table) n N (present N table)) (each out) × ((l : ℕ) → checkKernel (entry N table) n N (each out) l ≡ accepted)
 job-kernel n N table δ found out e left =
     let marked : CellsMarked n N table δ out = rw e at left in
-    let t = lent-tells n N table δ found e in
-    (marked-kernel n N table δ out marked (t .0) (t .1), marked-accepted n N table δ out marked (t .0) (t .1))
+    let level = accepted-level n N table δ found e .0 in
+    (marked-kernel n N table δ out marked level, marked-accepted n N table δ out marked level)
+
+-- what marking marks on the table that check left, add accepts, with any lent table of the exact length
+pub marked-added : (n N h : ℕ) (rows lambda delta table : List ℕ) → checkLent n N h rows lambda delta table ≡ accepted → h < 32 → (δ : ℕ) (found out table′ : List ℕ)
+    → markLent n N (checkLeaves n N h rows lambda delta table) δ found ≡ accepted → MarkLeaves n N (checkLeaves n N h rows lambda delta table) δ found (markLent n N (checkLeaves n N h rows lambda delta table) δ found) out
+    → length table′ ≡ suc n * N → addLent n N h rows lambda delta out table′ ≡ accepted
+marked-added n N h rows lambda delta table c room δ found out table′ e left as-long =
+    let T = levelTable (entry N rows) n N h (each lambda) (each delta) h in
+    let t = accepted-table n N h rows lambda delta table c in
+    let e′ : markLent n N T δ found ≡ accepted = rw t at e in
+    let marked : CellsMarked n N T δ out = rw (t, e′) at left in
+    let level = accepted-level n N T δ found e′ .0 in
+    let below = accepted-level n N T δ found e′ .1 in
+    top-row-added n N h rows lambda delta table c out table′ as-long room (marked .long) (λ d ld q. marked-only n N T δ out marked level d ld q .0)
+    (λ d ld q. elim (marked .mark d ld) [ inl w ↦ absurd (true≢false (sym (ap (isMark n) (w .2) ∙ is-removal n δ below) ∙ q)) | inr w ↦ w .1 ])
+    (marked-accepted n N T δ out marked level h)

@@ -1,5 +1,3 @@
-pub mod Orbits
-mod Searches
 mod Explicit
 mod Cells
 mod Lent

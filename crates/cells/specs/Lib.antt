@@ -1,3 +1,1 @@
-pub mod Orbits
-pub mod Search
 pub mod Marked

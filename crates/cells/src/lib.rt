@@ -1,5 +1,4 @@
 // Cells of an explicit level: mark the removable ones of one dimension. Assumes nothing.
 mod mark;
-mod search;
 
 pub use mark::mark_cells;

@@ -4,7 +4,7 @@ use mathlib.Core.Bool.{Bool, true, false}
 use mathlib.Core.List.{List}
 use Prim.Native.Nat.{ℕ, zero, suc, _≤_, _<_}
 use native.Mathlib.Omega.{arith}
-use lib.ListN.{length}
+use lib.ListN.{length, List·getD-eq-default}
 use lib.Dec.{eqb, ltb}
 use borrow.Author.Tests.{eqb-true, ltb-true, ltb-false, lt-ltb, le-ltb}
 use Rattle.maps.specs.Verdict.{Verdict, accepted, refused, _then_, scan}
@@ -13,17 +13,16 @@ use Rattle.maps.specs.Mark.{isMark}
 use Rattle.maps.specs.Removal.{removal}
 use Rattle.maps.specs.Table.{entry, each, listed}
 use Rattle.maps.specs.Folded.{survives, marks, addΛ, addΔ, level, levelTable}
+use Rattle.maps.specs.MarkRow.{Row}
 use Rattle.maps.specs.Check.{checkKernel, kernelAt, checkKernels}
 use Rattle.maps.specs.CheckPyramid.{leftBehind}
-use Rattle.facts.proofs.Verdicts.{then-accepted, scan-same}
-use Rattle.facts.proofs.Tables.{explicit-same}
-use Rattle.facts.proofs.Adding.{Row, marks-kept, marks-new, allowed-added}
+use Rattle.laws.proofs.Verdicts.{then-accepted, scan-same}
+use Rattle.laws.proofs.Tables.{getD-listed, length-listed, explicit-same}
+use Rattle.facts.proofs.Adding.{marks-kept, marks-new, allowed-added}
 use Rattle.facts.proofs.Climbing.{row-check, next-table, top-table}
-use Rattle.checking.specs.Ready.{jointΛ, jointΔ}
-use Rattle.checking.specs.Climb.{joined, Base, climbs, climbLeaves}
+use Rattle.checking.specs.Climb.{Base, climbs, climbLeaves}
 use Rattle.checking.specs.Added.{newTop, ascends, ascendLeaves}
 use Rattle.checking.proofs.ClimbVerdicts.{Says, Late, passed, says, says-then, says-more, kernel-late, kernels-late}
-use Rattle.checking.proofs.ClimbJoint.{delta-small, past, joint-long, joint-Λ, joint-Δ}
 
 -- the second verdict matters only where the first is accepted
 then-same : (v w u : Verdict) → (v ≡ accepted → w ≡ u) → (v then w) ≡ (v then u)
@@ -31,12 +30,12 @@ then-same accepted w u h = h refl
 then-same (refused k l i d) w u h = refl
 
 -- kernels below h and the mark row are refused with 9 or 10, and a level up to h
-pub ascends-late : (n N h : ℕ) (lambda delta row before : List ℕ) → Says (Late (λ x. x ≤ h)) (ascends n N h lambda delta row before)
-ascends-late n N h lambda delta row before =
-    let low = climbs n N h (each lambda) (each delta) before in
-    let last = checkKernel (level (entry N before) n N (marks h (each lambda) (each delta)) h) n N (each row) h in
-    says-then low last (says-more (λ k l p. (p .0, omega (arith, p .1))) low (kernels-late (entry N before) n N h (each lambda) (each delta)))
-    (says-more (λ k l p. (p .0, omega (arith, p .1))) last (kernel-late (level (entry N before) n N (marks h (each lambda) (each delta)) h) n N (each row) h))
+pub ascends-late : (n N h : ℕ) (rows lambda delta row : List ℕ) → Says (Late (λ x. x ≤ h)) (ascends n N h rows lambda delta row)
+ascends-late n N h rows lambda delta row =
+    let low = climbs n N h rows lambda delta in
+    let last = checkKernel (level (entry N rows) n N (marks h (each lambda) (each delta)) h) n N (each row) h in
+    says-then low last (says-more (λ k l p. (p .0, omega (arith, p .1))) low (kernels-late (entry N rows) n N h (each lambda) (each delta)))
+    (says-more (λ k l p. (p .0, omega (arith, p .1))) last (kernel-late (level (entry N rows) n N (marks h (each lambda) (each delta)) h) n N (each row) h))
 
 -- what is left is the same where the tables that it can be are
 left-same : (h : ℕ) (top top′ : List ℕ) (levels levels′ : ℕ → List ℕ) (found : List ℕ) (v : Verdict) → Says (Late (λ x. x ≤ h)) v → (v ≡ accepted → top ≡ top′) → ((l : ℕ) → l ≤ h → levels l ≡ levels′ l) → leftBehind top levels found v ≡ leftBehind top′ levels′ found v
@@ -44,11 +43,14 @@ unfolding leftBehind
 left-same h top top′ levels levels′ found _ passed t s = t refl
 left-same h top top′ levels levels′ found _ (says k l i d p) t s = rw (p .0) (s l (p .1))
 
-module _ {n N h : ℕ} (lambda delta row : List ℕ) {before joint : List ℕ} (b : Base n N h (each lambda) (each delta) before) (low : h ≤ 32)
-    (lambda-long : length lambda ≡ N) (delta-long : length delta ≡ N) (k : Row n N h (each lambda) (each row))
-    (is : joint ≡ listed (joined (addΛ n h (each lambda) (each row)) (addΔ n (each delta) (each row))) N) where
+-- beyond its end a row holds 0
+past : (row : List ℕ) (N d : ℕ) → length row ≡ N → N ≤ d → each row d ≡ 0
+past row N d long l = List·getD-eq-default row 0 (omega arith)
+
+module _ {n N h : ℕ} {rows lambda delta new-lambda new-delta : List ℕ} (row : List ℕ) (b : Base n N h rows lambda delta) (low : h ≤ 32) (k : Row n N h (each lambda) (each row))
+    (is-Λ : new-lambda ≡ listed (addΛ n h (each lambda) (each row)) N) (is-Δ : new-delta ≡ listed (addΔ n (each delta) (each row)) N) where
   abbrev a : Involutions
-  a = entry N before
+  a = entry N rows
 
   abbrev Λ : ℕ → ℕ
   Λ = each lambda
@@ -57,26 +59,31 @@ module _ {n N h : ℕ} (lambda delta row : List ℕ) {before joint : List ℕ} (
   Δ = each delta
 
   abbrev Λ′ : ℕ → ℕ
-  Λ′ = jointΛ joint
+  Λ′ = each new-lambda
 
   abbrev Δ′ : ℕ → ℕ
-  Δ′ = jointΔ joint
-
-  small : (d : ℕ) → d < N → addΔ n Δ (each row) d < 256
-  small d ld = delta-small n (suc h) (addΛ n h Λ (each row) d) (addΔ n Δ (each row) d) (b .dimension) (allowed-added n N h Λ Δ (each row) k d ld (b .allowed d ld))
+  Δ′ = each new-delta
 
   new-Λ : (d : ℕ) → d < N → Λ′ d ≡ addΛ n h Λ (each row) d
-  new-Λ d ld = joint-Λ (addΛ n h Λ (each row)) (addΔ n Δ (each row)) is d ld (small d ld)
+  new-Λ d ld = rw is-Λ (getD-listed (addΛ n h Λ (each row)) N d 0 ld)
 
   new-Δ : (d : ℕ) → d < N → Δ′ d ≡ addΔ n Δ (each row) d
-  new-Δ d ld = joint-Δ (addΛ n h Λ (each row)) (addΔ n Δ (each row)) is d ld (small d ld)
+  new-Δ d ld = rw is-Δ (getD-listed (addΔ n Δ (each row)) N d 0 ld)
 
-  added-base : Base n N (suc h) Λ′ Δ′ before
+  long-Λ : length new-lambda ≡ N
+  long-Λ = ap length is-Λ ∙ length-listed (addΛ n h Λ (each row)) N
+
+  long-Δ : length new-delta ≡ N
+  long-Δ = ap length is-Δ ∙ length-listed (addΔ n Δ (each row)) N
+
+  added-base : Base n N (suc h) rows new-lambda new-delta
   added-base = record {
     dimension = b .dimension;
     darts = b .darts;
     height = omega arith;
-    long = b .long;
+    rows-long = b .rows-long;
+    lambda-long = long-Λ;
+    delta-long = long-Δ;
     valid = b .valid;
     allowed = λ d ld. rw (new-Λ d ld, new-Δ d ld) (allowed-added n N h Λ Δ (each row) k d ld (b .allowed d ld));
   }
@@ -89,7 +96,7 @@ module _ {n N h : ℕ} (lambda delta row : List ℕ) {before joint : List ℕ} (
       go true q = let ld = ltb-true d N q in rw (new-Λ d ld, new-Δ d ld) (marks-kept n N h Λ Δ (each row) k l d f ld)
       go false q =
           let m = ltb-false d N q in
-          rw (past lambda N d lambda-long m, past delta N d delta-long m, past joint N d (joint-long (addΛ n h Λ (each row)) (addΔ n Δ (each row)) is) m, lt-ltb l h f, lt-ltb l (suc h) (omega arith))
+          rw (past lambda N d (b .lambda-long) m, past delta N d (b .delta-long) m, past new-lambda N d long-Λ m, past new-delta N d long-Δ m, lt-ltb l h f, lt-ltb l (suc h) (omega arith))
 
   new : (d : ℕ) → d < N → marks (suc h) Λ′ Δ′ h d ≡ each row d
   new d ld = rw (new-Λ d ld, new-Δ d ld) (marks-new n N h Λ Δ (each row) k d ld)
@@ -121,12 +128,12 @@ module _ {n N h : ℕ} (lambda delta row : List ℕ) {before joint : List ℕ} (
       rw (level-kept l f)
       (explicit-same (level a n N (marks (suc h) Λ′ Δ′) l) (level a n N (marks (suc h) Λ′ Δ′) l) n N (survives Λ′ l) (survives Λ l) (λ d ld. sym (survives-kept l d f ld)) (λ i d li ld q. refl))
 
-  scan-kept : scan h (kernelAt a n N (suc h) Λ′ Δ′) ≡ climbs n N h Λ Δ before
+  scan-kept : scan h (kernelAt a n N (suc h) Λ′ Δ′) ≡ climbs n N h rows lambda delta
   unfolding checkKernels
   scan-kept = scan-same h (kernelAt a n N (suc h) Λ′ Δ′) (kernelAt a n N h Λ Δ) kernel-kept
 
   -- the kernels below h are accepted
-  module _ (checked : climbs n N h Λ Δ before ≡ accepted) where
+  module _ (checked : climbs n N h rows lambda delta ≡ accepted) where
     scanned : scan h (kernelAt a n N h Λ Δ) ≡ accepted
     unfolding checkKernels
     scanned = checked
@@ -138,31 +145,30 @@ module _ {n N h : ℕ} (lambda delta row : List ℕ) {before joint : List ℕ} (
         sym (ap (λ (A : Involutions). checkKernel A n N (marks (suc h) Λ′ Δ′ h) h) (level-kept h (omega arith))) ∙ sym (check (marks (suc h) Λ′ Δ′ h) new) ∙ check (each row) (λ d ld. refl)
 
     -- and so is the mark row
-    top-is : checkKernel (level a n N (marks h Λ Δ) h) n N (each row) h ≡ accepted → levelTable a n N (suc h) Λ′ Δ′ (suc h) ≡ newTop n N h lambda delta row before
+    top-is : checkKernel (level a n N (marks h Λ Δ) h) n N (each row) h ≡ accepted → levelTable a n N (suc h) Λ′ Δ′ (suc h) ≡ newTop n N h rows lambda delta row
     top-is accept =
         let c = added-base in
         let next = next-table a n N (suc h) Λ′ Δ′ (c .dimension) (c .darts) (c .valid) (c .allowed) h (omega arith) (scan-kept ∙ checked) (omega arith) (each row) new (last-is ∙ accept) in
         let top = top-table a n N h Λ Δ (b .dimension) (b .darts) (b .valid) (b .allowed) checked (each row) k accept (each row) (λ d ld. refl) in
         sym (rw (table-kept h (omega arith)) at next) ∙ top
 
-  climbs-is : climbs n N (suc h) Λ′ Δ′ before ≡ ascends n N h lambda delta row before
+  climbs-is : climbs n N (suc h) rows new-lambda new-delta ≡ ascends n N h rows lambda delta row
   unfolding checkKernels scan
-  climbs-is = rw scan-kept (then-same (climbs n N h Λ Δ before) (kernelAt a n N (suc h) Λ′ Δ′ h) (checkKernel (level a n N (marks h Λ Δ) h) n N (each row) h) last-is)
+  climbs-is = rw scan-kept (then-same (climbs n N h rows lambda delta) (kernelAt a n N (suc h) Λ′ Δ′ h) (checkKernel (level a n N (marks h Λ Δ) h) n N (each row) h) last-is)
 
-  leaves-is : climbLeaves n N (suc h) Λ′ Δ′ before ≡ ascendLeaves n N h lambda delta row before
+  leaves-is : climbLeaves n N (suc h) rows new-lambda new-delta ≡ ascendLeaves n N h rows lambda delta row
   leaves-is =
-      let low = climbs n N h Λ Δ before in
+      let low = climbs n N h rows lambda delta in
       let last = checkKernel (level a n N (marks h Λ Δ) h) n N (each row) h in
       let top = levelTable a n N (suc h) Λ′ Δ′ (suc h) in
-      ap (leftBehind top (levelTable a n N (suc h) Λ′ Δ′) before) climbs-is
-      ∙ left-same h top (newTop n N h lambda delta row before) (levelTable a n N (suc h) Λ′ Δ′) (levelTable a n N h Λ Δ) before (ascends n N h lambda delta row before) (ascends-late n N h lambda delta row before)
+      ap (leftBehind top (levelTable a n N (suc h) Λ′ Δ′) rows) climbs-is
+      ∙ left-same h top (newTop n N h rows lambda delta row) (levelTable a n N (suc h) Λ′ Δ′) (levelTable a n N h Λ Δ) rows (ascends n N h rows lambda delta row) (ascends-late n N h rows lambda delta row)
       (λ e. let s = then-accepted low last e in top-is (s .0) (s .1)) table-kept
 
   -- as the code has it, with the new height
   module _ {new-h : ℕ} (grown : new-h ≡ suc h) where
-    pub ascend-base : Base n N new-h (jointΛ joint) (jointΔ joint) before
+    pub ascend-base : Base n N new-h rows new-lambda new-delta
     ascend-base = rw grown added-base
 
-    pub ascend-risen : (v : Verdict) (after : List ℕ) → v ≡ climbs n N new-h (jointΛ joint) (jointΔ joint) before → after ≡ climbLeaves n N new-h (jointΛ joint) (jointΔ joint) before
-        → (v ≡ ascends n N h lambda delta row before) × (after ≡ ascendLeaves n N h lambda delta row before)
-    ascend-risen v after e f = ((rw grown at e) ∙ climbs-is, (rw grown at f) ∙ leaves-is)
+    pub ascend-risen : {v : Verdict} {after : List ℕ} → v ≡ climbs n N new-h rows new-lambda new-delta → after ≡ climbLeaves n N new-h rows new-lambda new-delta → (v ≡ ascends n N h rows lambda delta row) × (after ≡ ascendLeaves n N h rows lambda delta row)
+    ascend-risen e f = ((rw grown at e) ∙ climbs-is, (rw grown at f) ∙ leaves-is)

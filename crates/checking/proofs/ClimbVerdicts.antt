@@ -2,19 +2,20 @@
 use mathlib.Core.Path.{_≡_, refl, sym, ap, _∙_}
 use mathlib.Core.Bool.{Bool, true, false, _&&_, _||_, not}
 use mathlib.Core.List.{List}
-use Prim.Native.Nat.{ℕ, zero, suc, _+_, _<_}
+use Prim.Native.Nat.{ℕ, zero, suc, _<_}
 use native.Mathlib.Omega.{arith}
 use lib.Dec.{eqb, leb, ltb}
 use Rattle.maps.specs.Verdict.{Verdict, accepted, refused, when, ifAccepted, _then_, scan}
 use Rattle.maps.specs.Map.{Involutions}
 use Rattle.maps.specs.Sizes.{sizes, number1, number2, number3, number4}
+use Rattle.maps.specs.Mark.{between}
 use Rattle.maps.specs.Folded.{refusedMarks, marks, level}
-use Rattle.maps.specs.Check.{strays, notTwice, notCommuting, at5, at6, at7, check5, check6, check7, checkMap, leaves, notRemovable, at9, at10, check9, check10, checkKernel, at8, check8, kernelAt, checkKernels}
+use Rattle.maps.specs.Check.{strays, notTwice, notCommuting, at5, at6, at7, check5, check6, check7, checkMap, leaves, notFitting, at9, at10, check9, check10, checkKernel, at8, check8, kernelAt, checkKernels}
 use Rattle.maps.specs.CheckPyramid.{leftBehind}
-use Rattle.facts.proofs.Verdicts.{not-refused}
+use Rattle.laws.proofs.Verdicts.{not-refused}
 use Rattle.answers.specs.Numbers.{refusalOf}
 use Rattle.answers.specs.declared.Refusal.{Refusal}
-use Rattle.answers.proofs.Refusals.{refusal-refuses}
+use Rattle.answers.proofs.Refusals.{refusal-refuses, refused-then}
 
 -- accepted, or refused with a number and a level of which P holds
 pub data Says (P : ℕ → ℕ → Type 0) : Verdict → Type 0 where
@@ -80,7 +81,7 @@ unfolding at9 at10 check9 check10 checkKernel
 kernel-late a n N mark l =
     says-then (check9 a n N mark l) (check10 a n N mark l)
     (says-scan N (λ d. scan (suc n) (at9 a n N mark l d)) (λ d ld. says-scan (suc n) (at9 a n N mark l d) (λ j lj. says-when (leaves a n N mark l d j) 9 l j d (refl, refl))))
-    (says-scan N (at10 a n N mark l) (λ d ld. says-when (notRemovable a n N mark l d) 10 l (mark d + 1) d (refl, refl)))
+    (says-scan N (at10 a n N mark l) (λ d ld. says-when (notFitting a n N mark l d) 10 l (between (mark d) .1) d (refl, refl)))
 
 -- kernels with 9 or 10 and the level of one of them
 pub kernels-late : (a : Involutions) (n N h : ℕ) (Λ Δ : ℕ → ℕ) → Says (Late (λ x. x < h)) (checkKernels a n N h Λ Δ)
@@ -89,29 +90,31 @@ kernels-late a n N h Λ Δ =
     says-scan h (kernelAt a n N h Λ Δ) (λ l f.
     says-more (λ k x p. (p .0, rw (p .1) f)) (kernelAt a n N h Λ Δ l) (kernel-late (level a n N (marks h Λ Δ) l) n N (marks h Λ Δ l) l))
 
-module _ (top : List ℕ) (levels : ℕ → List ℕ) where
-  -- a refusal with another number than 9 or 10 leaves what was found
-  pub early-left : (found : List ℕ) (r : Refusal) (v w : Verdict) → Says Early v → refusalOf r ≡ v → found ≡ leftBehind top levels found (v then w)
+-- and a refusal of one kernel leaves the level that it names
+pub late-leaves : (top : List ℕ) (levels : ℕ → List ℕ) (found : List ℕ) (m : ℕ) (v : Verdict) → Says (Late (λ x. x ≡ m)) v → leftBehind top levels found v ≡ ifAccepted v top (levels m)
+unfolding leftBehind
+late-leaves top levels found m _ passed = refl
+late-leaves top levels found m _ (says k l i d p) = rw (p .0) (ap levels (p .1))
+
+-- A job that tests sizes, then base and marks, both with other numbers than 9 and 10, then kernels, with no other. What it leaves in the table is what was found, unless the kernels were reached.
+module _ (top : List ℕ) (levels : ℕ → List ℕ) (found : List ℕ) {At : ℕ → Type 0} (job sized marked kernels : Verdict) (parts : job ≡ (sized then (marked then kernels)))
+    (early : Says Early sized) (early₂ : Says Early marked) (late : Says (Late At) kernels) where
+  early-left : (r : Refusal) (v w : Verdict) → Says Early v → refusalOf r ≡ v → found ≡ leftBehind top levels found (v then w)
   unfolding leftBehind
-  early-left found r _ w passed e = absurd (not-refused (sym (refusal-refuses r .is) ∙ e))
-  early-left found r _ w (says k l i d p) e = rw p
+  early-left r _ w passed e = absurd (not-refused (sym (refusal-refuses r .is) ∙ e))
+  early-left r _ w (says k l i d p) e = rw p
 
-  -- of a verdict that refuses with no other number than 9 or 10, it is no matter what was found
-  pub late-left : (At : ℕ → Type 0) (found other : List ℕ) (v : Verdict) → Says (Late At) v → leftBehind top levels found v ≡ leftBehind top levels other v
+  late-left : (other : List ℕ) (v : Verdict) → Says (Late At) v → leftBehind top levels other v ≡ leftBehind top levels found v
   unfolding leftBehind
-  late-left At found other _ passed = refl
-  late-left At found other _ (says k l i d p) = rw (p .0)
+  late-left other _ passed = refl
+  late-left other _ (says k l i d p) = rw (p .0)
 
-  -- and a refusal leaves the level that it names
-  pub late-leaves : (found : List ℕ) (m : ℕ) (v : Verdict) → Says (Late (λ x. x ≡ m)) v → leftBehind top levels found v ≡ ifAccepted v top (levels m)
-  unfolding leftBehind
-  late-leaves found m _ passed = refl
-  late-leaves found m _ (says k l i d p) = rw (p .0) (ap levels (p .1))
+  pub at-sizes : (r : Refusal) → refusalOf r ≡ sized → (refusalOf r ≡ job) × (found ≡ leftBehind top levels found job)
+  at-sizes r e = rw parts (refused-then r sized (marked then kernels) e, early-left r sized (marked then kernels) early e)
 
--- a refusal leaves the old value
-pub refused-old : {A : Type 0} (r : Refusal) (v : Verdict) (new old : A) → refusalOf r ≡ v → old ≡ ifAccepted v new old
-refused-old r v new old e = rw (sym e ∙ refusal-refuses r .is)
+  module _ (f : accepted ≡ sized) where
+    pub at-marks : (r : Refusal) → refusalOf r ≡ marked → (refusalOf r ≡ job) × (found ≡ leftBehind top levels found job)
+    at-marks r e = rw (parts, ← f) (refused-then r marked kernels e, early-left r marked kernels early₂ e)
 
-pub then-parts : (u v w : Verdict) → ((u then v) then w) ≡ (u then (v then w))
-then-parts accepted v w = refl
-then-parts (refused k l i d) v w = refl
+    pub at-kernels : accepted ≡ marked → {v : Verdict} {after : List ℕ} (other : List ℕ) → v ≡ kernels → after ≡ leftBehind top levels other kernels → (v ≡ job) × (after ≡ leftBehind top levels found job)
+    at-kernels g other e leaves = rw (parts, ← f, ← g) (e, leaves ∙ late-left other kernels late)

@@ -1,14 +1,6 @@
-mod KernelRows
-mod KernelStrings
-mod KernelTests
-mod KernelSteps
-mod KernelRemoval
-mod KernelLinks
-mod ClimbMarks
 mod ClimbVerdicts
 mod ClimbSteps
 mod ClimbCheck
-mod ClimbJoint
-mod AddRow
+mod Rows
 mod AddKernels
 mod AddCheck

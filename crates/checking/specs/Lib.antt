@@ -1,4 +1,3 @@
 pub mod Answers
-pub mod Ready
 pub mod Climb
 pub mod Added

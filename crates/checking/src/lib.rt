@@ -1,6 +1,5 @@
 // Check a pyramid, and add a level. Assumes nothing.
 mod climb; // climb.rt: all kernels, one after the other
-mod kernel; // kernel.rt: one kernel, tested and removed
 mod pyramid; // pyramid.rt: a whole pyramid, and a level added
 
 pub use pyramid::Added;

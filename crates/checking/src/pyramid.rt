@@ -1,26 +1,35 @@
-// Check a whole pyramid, with one lent table, and add a level. Λ and Δ in one row, 8,192 bytes, are all the local memory here. Assumes nothing.
+// Check a whole pyramid, with one lent table, and add a level. An add's new Λ and Δ, 8,192 bytes, are all the local memory here. Assumes nothing.
 use super::climb::rise;
 use answers::Check;
 use answers::Dim;
 use answers::Level;
+use answers::Mark;
 use answers::Refusal;
 ghost use mathlib.Core.Path.{_≡_};
-ghost use mathlib.Core.Bool.{cond, not};
-ghost use Prim.Native.Nat.{suc, _+_, _*_, _≤_};
+ghost use mathlib.Core.Bool.{cond, _&&_, not};
+ghost use Prim.Native.Nat.{suc, _*_, _≤_};
 ghost use lib.ListN.{length};
 ghost use lib.Dec.{eqb};
 ghost use Rattle.maps.specs.Mark.{isMark, stay};
 ghost use Rattle.maps.specs.Table.{each, listed};
 ghost use Rattle.maps.specs.Folded.{addΛ, addΔ};
+ghost use Rattle.maps.specs.MarkRow.{Row};
 ghost use Rattle.maps.specs.Verdict.{accepted};
-ghost use Rattle.maps.specs.Check.{check8};
 ghost use Rattle.maps.specs.CheckPyramid.{checkLent, checkLeaves};
 ghost use Rattle.maps.specs.AddLevel.{addLent, addHeight, addLambda, addDelta, addLeaves};
-ghost use Rattle.facts.proofs.Adding.{Row};
 ghost use Rattle.answers.specs.Numbers.{verdictOf};
-ghost use Rattle.checking.specs.Climb.{lentSizes, baseSizes, joined, Base, climbs, climbLeaves, baseAndMarks};
+ghost use Rattle.checking.specs.Climb.{lentSizes, baseSizes, Base, baseAndMarks};
 ghost use Rattle.checking.specs.Added.{addSizes, rowMarks, addMarks, ascends, ascendLeaves};
 ghost use Rattle.checking.specs.Answers.{addedOf, heightOf};
+
+// Have base rows, Λ and Δ the exact lengths, and what else is lent?
+fn fit(n: Dim, darts: u16, rows: usize, lambda: usize, delta: usize, others: bool) -> bool
+    ensures { λ r. ⌜ r ≡ (eqb rows (suc (n .0) * darts) && (eqb lambda darts && (eqb delta darts && others))) ⌝ }
+{
+    let marks = answers::both(answers::row_fits(darts, delta), others);
+    let below = answers::both(answers::row_fits(darts, lambda), marks);
+    answers::both(answers::rows_fit(n, darts, rows), below)
+}
 
 // Numbers 1 to 4 of base rows, marks and a table.
 fn lent(
@@ -34,24 +43,9 @@ fn lent(
 ) -> Check
     ensures { λ r. ⌜ verdictOf r ≡ lentSizes (n .0) darts (h .0) (now (rows .entry)) (now (lambda .entry)) (now (delta .entry)) (now (table .entry)) ⌝ }
 {
-    if let Check::Refused(r) = answers::sizes(n, darts, h) {
-        return Check::Refused(r);
-    }
-    let width = darts as usize;
-    let size = (n.0 as usize + 1) * width;
-    if rows.len() != size {
-        return Check::Refused(Refusal::Length);
-    }
-    if lambda.len() != width {
-        return Check::Refused(Refusal::Length);
-    }
-    if delta.len() != width {
-        return Check::Refused(Refusal::Length);
-    }
-    if table.len() != size {
-        return Check::Refused(Refusal::Length);
-    }
-    Check::Accepted
+    let whole = answers::rows_fit(n, darts, table.len());
+    let all = fit(n, darts, rows.len(), lambda.len(), delta.len(), whole);
+    answers::lent(n, darts, h, all)
 }
 
 // Numbers 5 to 8, before anything lent is written.
@@ -63,44 +57,6 @@ fn base_and_marks(n: Dim, darts: u16, h: Level, rows: &[u16], lambda: &[u8], del
         return Check::Refused(r);
     }
     answers::marks_refusal(n, darts, h, lambda, delta, Level(0))
-}
-
-// The base, copied into the lent table.
-fn copy(rows: &[u16], table: &mut [u16])
-    requires { ⌜ length (now table) ≡ length (now rows) ⌝ }
-    ensures { λ _. ⌜ now (table .exit) ≡ now (rows .entry) ⌝ }
-{
-    for k in 0..rows.len() {
-        table[k] = rows[k];
-    }
-}
-
-// Λ and Δ in one number.
-fn joint_of(lambda: u8, delta: u8) -> u16
-    ensures { λ r. ⌜ r ≡ lambda * 256 + delta ⌝ }
-{
-    lambda as u16 * 256 + delta as u16
-}
-
-// Those of each dart.
-fn join(darts: usize, lambda: &[u8], delta: &[u8], joint: &mut [u16])
-    requires { ⌜ (length (now lambda) ≡ darts) × (length (now delta) ≡ darts) × (length (now joint) ≡ darts) ⌝ }
-    ensures { λ _. ⌜ now (joint .exit) ≡ listed (joined (each (now (lambda .entry))) (each (now (delta .entry)))) darts ⌝ }
-{
-    for d in 0..darts {
-        joint[d] = joint_of(lambda[d], delta[d]);
-    }
-}
-
-// All kernels, from the base that the table holds.
-fn climb(n: Dim, darts: usize, h: Level, lambda: &[u8], delta: &[u8], table: &mut [u16]) -> Check
-    requires { ⌜ Base (n .0) darts (h .0) (each (now lambda)) (each (now delta)) (now table) × (length (now lambda) ≡ darts) × (length (now delta) ≡ darts) ⌝ }
-    ensures { λ r. ⌜ verdictOf r ≡ climbs (n .0) darts (h .0) (each (now (lambda .entry))) (each (now (delta .entry))) (now (table .entry)) ⌝ }
-    ensures { λ _. ⌜ now (table .exit) ≡ climbLeaves (n .0) darts (h .0) (each (now (lambda .entry))) (each (now (delta .entry))) (now (table .entry)) ⌝ }
-{
-    let mut joint = [0u16; 4096];
-    join(darts, lambda, delta, &mut joint[..darts]);
-    rise(n, darts, h, &joint[..darts], table)
 }
 
 // Check a whole pyramid. Accepted, the table holds the explicit level h; after 9 or 10 the level whose kernel failed.
@@ -122,8 +78,7 @@ pub fn check(
     if let Check::Refused(r) = base_and_marks(n, darts, h, rows, lambda, delta) {
         return Check::Refused(r);
     }
-    copy(rows, table);
-    climb(n, darts as usize, h, lambda, delta, table)
+    rise(n, darts as usize, h, rows, lambda, delta, table)
 }
 
 // The new height, or a refusal.
@@ -145,11 +100,13 @@ fn add_lent(
 ) -> Check
     ensures { λ r. ⌜ verdictOf r ≡ addSizes (n .0) darts (h .0) (now (rows .entry)) (now (lambda .entry)) (now (delta .entry)) (now (row .entry)) (now (table .entry)) ⌝ }
 {
-    if let Check::Refused(r) = lent(n, darts, h, rows, lambda, delta, table) {
+    let whole = answers::both(
+        answers::row_fits(darts, row.len()),
+        answers::rows_fit(n, darts, table.len()),
+    );
+    let all = fit(n, darts, rows.len(), lambda.len(), delta.len(), whole);
+    if let Check::Refused(r) = answers::lent(n, darts, h, all) {
         return Check::Refused(r);
-    }
-    if row.len() != darts as usize {
-        return Check::Refused(Refusal::Length);
     }
     if h.0 == 32 {
         return Check::Refused(Refusal::Full);
@@ -157,14 +114,14 @@ fn add_lent(
     Check::Accepted
 }
 
-// Number 8 of one mark: below n, remove; 255, stay; a dart not on level h must have 255.
-fn mark_refused(n: Dim, h: Level, lambda: Level, mark: u8) -> bool
-    ensures { λ r. ⌜ r ≡ not (cond (isMark (n .0) mark) (eqb (lambda .0) (h .0)) (eqb mark stay)) ⌝ }
+// Number 8 of one mark: a mark, remove; 255, stay; a dart not on level h must have 255.
+fn mark_refused(n: Dim, h: Level, lambda: Level, mark: Mark) -> bool
+    ensures { λ r. ⌜ r ≡ not (cond (isMark (n .0) (mark .0)) (eqb (lambda .0) (h .0)) (eqb (mark .0) stay)) ⌝ }
 {
-    if mark < n.0 {
+    if answers::is_mark(n, mark) {
         return lambda.0 != h.0;
     }
-    mark != 255
+    mark.0 != 255
 }
 
 // Number 8 of the mark row, over darts, with level h.
@@ -174,7 +131,7 @@ fn row_checked(n: Dim, darts: u16, h: Level, lambda: &[u8], row: &[u8]) -> Check
 {
     for d in 0..darts {
         let at = d as usize;
-        if mark_refused(n, h, Level(lambda[at]), row[at]) {
+        if mark_refused(n, h, Level(lambda[at]), Mark(row[at])) {
             return Check::Refused(Refusal::Marks(h, Dim(0), d));
         }
     }
@@ -201,81 +158,111 @@ fn add_marked(
 }
 
 // Λ of a dart once the level is added: darts marked get the old h, the other survivors the new one.
-fn lambda_after(n: Dim, h: Level, lambda: u8, mark: u8) -> u8
+fn lambda_after(n: Dim, h: Level, lambda: Level, mark: Mark) -> Level
     requires { ⌜ h .0 ≤ 32 ⌝ }
-    ensures { λ r. ⌜ r ≡ cond (isMark (n .0) mark) (h .0) (cond (eqb lambda (h .0)) (suc (h .0)) lambda) ⌝ }
+    ensures { λ r. ⌜ r .0 ≡ cond (isMark (n .0) (mark .0)) (h .0) (cond (eqb (lambda .0) (h .0)) (suc (h .0)) (lambda .0)) ⌝ }
 {
-    if mark < n.0 {
-        return h.0;
+    if answers::is_mark(n, mark) {
+        return h;
     }
-    if lambda == h.0 {
-        return h.0 + 1;
+    if lambda.0 == h.0 {
+        return Level(h.0 + 1);
     }
     lambda
 }
 
 // Δ of a dart once the level is added: the mark, of the darts marked.
-fn delta_after(n: Dim, delta: u8, mark: u8) -> u8
-    ensures { λ r. ⌜ r ≡ cond (isMark (n .0) mark) mark delta ⌝ }
+fn delta_after(n: Dim, delta: Mark, mark: Mark) -> Mark
+    ensures { λ r. ⌜ r .0 ≡ cond (isMark (n .0) (mark .0)) (mark .0) (delta .0) ⌝ }
 {
-    if mark < n.0 {
+    if answers::is_mark(n, mark) {
         return mark;
     }
     delta
 }
 
-// Λ and Δ of each dart in one number, once the level is added.
-fn join_added(
-    n: Dim,
-    darts: usize,
-    h: Level,
-    lambda: &[u8],
-    delta: &[u8],
-    row: &[u8],
-    joint: &mut [u16],
-)
-    requires { ⌜ (h .0 ≤ 32) × (length (now lambda) ≡ darts) × (length (now delta) ≡ darts) × (length (now row) ≡ darts) × (length (now joint) ≡ darts) ⌝ }
-    ensures { λ _. ⌜ now (joint .exit) ≡ listed (joined (addΛ (n .0) (h .0) (each (now (lambda .entry))) (each (now (row .entry)))) (addΔ (n .0) (each (now (delta .entry))) (each (now (row .entry))))) darts ⌝ }
+// The mark row folded into Λ and Δ.
+fn fold_in(n: Dim, h: Level, row: &[u8], lambda: &mut [u8], delta: &mut [u8])
+    requires { ⌜ (h .0 ≤ 32) × (length (now lambda) ≡ length (now row)) × (length (now delta) ≡ length (now row)) ⌝ }
+    ensures { λ _. ⌜ now (lambda .exit) ≡ listed (addΛ (n .0) (h .0) (each (now (lambda .entry))) (each (now (row .entry)))) (length (now (row .entry))) ⌝ }
+    ensures { λ _. ⌜ now (delta .exit) ≡ listed (addΔ (n .0) (each (now (delta .entry))) (each (now (row .entry)))) (length (now (row .entry))) ⌝ }
 {
-    for d in 0..darts {
-        let mark = row[d];
-        let lambda_new = lambda_after(n, h, lambda[d], mark);
-        let delta_new = delta_after(n, delta[d], mark);
-        joint[d] = joint_of(lambda_new, delta_new);
+    for d in 0..row.len() {
+        let mark = Mark(row[d]);
+        let new_lambda = lambda_after(n, h, Level(lambda[d]), mark);
+        let new_delta = delta_after(n, Mark(delta[d]), mark);
+        lambda[d] = new_lambda.0;
+        delta[d] = new_delta.0;
     }
 }
 
-// Kernels 0 to h−1, then the mark row as kernel h, from the base that the table holds.
+// A row of bytes, copied.
+fn copy_row(row: &[u8], copied: &mut [u8])
+    requires { ⌜ length (now copied) ≡ length (now row) ⌝ }
+    ensures { λ _. ⌜ now (copied .exit) ≡ now (row .entry) ⌝ }
+{
+    for k in 0..row.len() {
+        copied[k] = row[k];
+    }
+}
+
+// Λ and Δ with the mark row folded in, in rows of their own.
+fn folded(
+    n: Dim,
+    h: Level,
+    row: &[u8],
+    lambda: &[u8],
+    delta: &[u8],
+    new_lambda: &mut [u8],
+    new_delta: &mut [u8],
+)
+    requires { ⌜ (h .0 ≤ 32) × (length (now lambda) ≡ length (now row)) × (length (now delta) ≡ length (now row)) × (length (now «new_lambda») ≡ length (now row)) × (length (now «new_delta») ≡ length (now row)) ⌝ }
+    ensures { λ _. ⌜ now («new_lambda» .exit) ≡ listed (addΛ (n .0) (h .0) (each (now (lambda .entry))) (each (now (row .entry)))) (length (now (row .entry))) ⌝ }
+    ensures { λ _. ⌜ now («new_delta» .exit) ≡ listed (addΔ (n .0) (each (now (delta .entry))) (each (now (row .entry)))) (length (now (row .entry))) ⌝ }
+{
+    copy_row(lambda, new_lambda);
+    copy_row(delta, new_delta);
+    fold_in(n, h, row, new_lambda, new_delta);
+}
+
+// Kernels 0 to h−1, then the mark row as kernel h, from the base.
 fn ascend(
     n: Dim,
-    darts: usize,
+    darts: u16,
     h: Level,
+    rows: &[u16],
     lambda: &[u8],
     delta: &[u8],
     row: &[u8],
     table: &mut [u16],
 ) -> Check
-    requires { ⌜ Base (n .0) darts (h .0) (each (now lambda)) (each (now delta)) (now table) × (h .0 ≤ 32) × (length (now lambda) ≡ darts) × (length (now delta) ≡ darts) ⌝ }
+    requires { ⌜ Base (n .0) darts (h .0) (now rows) (now lambda) (now delta) × (h .0 ≤ 32) × (length (now table) ≡ length (now rows)) ⌝ }
     requires { ⌜ (length (now row) ≡ darts) × Row (n .0) darts (h .0) (each (now lambda)) (each (now row)) ⌝ }
-    ensures { λ r. ⌜ verdictOf r ≡ ascends (n .0) darts (h .0) (now (lambda .entry)) (now (delta .entry)) (now (row .entry)) (now (table .entry)) ⌝ }
-    ensures { λ _. ⌜ now (table .exit) ≡ ascendLeaves (n .0) darts (h .0) (now (lambda .entry)) (now (delta .entry)) (now (row .entry)) (now (table .entry)) ⌝ }
+    ensures { λ r. ⌜ verdictOf r ≡ ascends (n .0) darts (h .0) (now (rows .entry)) (now (lambda .entry)) (now (delta .entry)) (now (row .entry)) ⌝ }
+    ensures { λ _. ⌜ now (table .exit) ≡ ascendLeaves (n .0) darts (h .0) (now (rows .entry)) (now (lambda .entry)) (now (delta .entry)) (now (row .entry)) ⌝ }
 {
-    let mut joint = [0u16; 4096];
-    join_added(n, darts, h, lambda, delta, row, &mut joint[..darts]);
-    rise(n, darts, Level(h.0 + 1), &joint[..darts], table)
-}
-
-// The mark row folded into Λ and Δ.
-fn fold_in(n: Dim, darts: usize, h: Level, row: &[u8], lambda: &mut [u8], delta: &mut [u8])
-    requires { ⌜ (h .0 ≤ 32) × (length (now row) ≡ darts) × (length (now lambda) ≡ darts) × (length (now delta) ≡ darts) ⌝ }
-    ensures { λ _. ⌜ now (lambda .exit) ≡ listed (addΛ (n .0) (h .0) (each (now (lambda .entry))) (each (now (row .entry)))) darts ⌝ }
-    ensures { λ _. ⌜ now (delta .exit) ≡ listed (addΔ (n .0) (each (now (delta .entry))) (each (now (row .entry)))) darts ⌝ }
-{
-    for d in 0..darts {
-        let mark = row[d];
-        lambda[d] = lambda_after(n, h, lambda[d], mark);
-        delta[d] = delta_after(n, delta[d], mark);
-    }
+    let width = darts as usize;
+    let mut new_lambda = [0u8; 4096];
+    let mut new_delta = [0u8; 4096];
+    folded(
+        n,
+        h,
+        row,
+        lambda,
+        delta,
+        &mut new_lambda[..width],
+        &mut new_delta[..width],
+    );
+    let next = Level(h.0 + 1);
+    rise(
+        n,
+        width,
+        next,
+        rows,
+        &new_lambda[..width],
+        &new_delta[..width],
+        table,
+    )
 }
 
 // Add a level. Accepted, Λ and Δ hold the new height's marks and the table the new top level; refused, Λ and Δ are as found.
@@ -301,11 +288,9 @@ pub fn add(
     if let Check::Refused(r) = add_marked(n, darts, h, rows, lambda, delta, row) {
         return Added::Refused(r);
     }
-    copy(rows, table);
-    let width = darts as usize;
-    if let Check::Refused(r) = ascend(n, width, h, lambda, delta, row, table) {
+    if let Check::Refused(r) = ascend(n, darts, h, rows, lambda, delta, row, table) {
         return Added::Refused(r);
     }
-    fold_in(n, width, h, row, lambda, delta);
+    fold_in(n, h, row, lambda, delta);
     Added::Grown(Level(h.0 + 1))
 }

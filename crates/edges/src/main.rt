@@ -70,8 +70,8 @@ fn unchecked_reading() {
         Dim(0),
         0,
     ) {
-        reading::Reading::Found(_, _) => taken(b"unchecked reading"),
-        reading::Reading::Refused(r) => refused(b"unchecked reading", r),
+        questions::Reading::Found(_) => taken(b"unchecked reading"),
+        questions::Reading::Refused(r) => refused(b"unchecked reading", r),
     }
 }
 
@@ -118,15 +118,15 @@ fn heights() {
 }
 
 // A level added at height h, on one dart that stays.
-fn added(name: &[u8], h: u8) {
+fn added(name: &[u8], h: Level) {
     let mut lambda = [0u8; 1];
-    lambda[0] = h;
+    lambda[0] = h.0;
     let mut delta = [1u8; 1];
     let mut table = [0u16; 2];
     match checking::add(
         Dim(1),
         1,
-        Level(h),
+        h,
         &[0u16, 0],
         &mut lambda,
         &mut delta,
@@ -185,8 +185,8 @@ fn main() {
     dimensions();
     darts();
     heights();
-    added(b"added at h 31", 31);
-    added(b"added at h 32", 32);
+    added(b"added at h 31", Level(31));
+    added(b"added at h 32", Level(32));
     one_byte_rows(b"one-byte rows at N 256", 0, 1);
     one_byte_rows(b"one-byte rows at N 257", 1, 1);
 }

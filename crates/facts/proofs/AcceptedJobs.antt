@@ -17,9 +17,9 @@ use Rattle.maps.specs.CheckPyramid.{leftBehind, checkLent, checkLeaves}
 use Rattle.maps.specs.MarksBack.{atMarks8}
 use Rattle.maps.specs.Read.{found, question, readLent, readLentByLevels}
 use Rattle.maps.specs.Unfold.{dartOf, walkAt, atWalk, unfoldLent, unfoldTotal, unfoldLeaves}
-use Rattle.facts.proofs.Verdicts.{then-accepted, scan-all, and-both}
-use Rattle.facts.proofs.Sizes.{Sized, sizes-sized, lengths-exact}
-use Rattle.facts.proofs.Tables.{explicit-same}
+use Rattle.laws.proofs.Verdicts.{then-accepted, scan-all, and-both}
+use Rattle.laws.proofs.Sizes.{Sized, sizes-sized, lengths-exact}
+use Rattle.laws.proofs.Tables.{explicit-same}
 use Rattle.facts.proofs.Checks.{check-pyramid}
 use Rattle.facts.proofs.Facts.{Facts, facts}
 
@@ -37,7 +37,7 @@ module _ (n N h : ℕ) (rows lambda delta table : List ℕ) (e : checkLent n N h
   abbrev lengths : Bool
   lengths = hasLength rows (suc n * N) && (hasLength lambda N && (hasLength delta N && hasLength table (suc n * N)))
 
-  parts : (sizes n N h ≡ accepted) × (number4 lengths ≡ accepted) × (checkPyramid a n N h Λ Δ ≡ accepted)
+  pub parts : (sizes n N h ≡ accepted) × (number4 lengths ≡ accepted) × (checkPyramid a n N h Λ Δ ≡ accepted)
   unfolding checkLent
   parts =
       let r = then-accepted (sizes n N h) (number4 lengths then checkPyramid a n N h Λ Δ) e in
@@ -60,7 +60,7 @@ module _ (n N h : ℕ) (rows lambda delta table : List ℕ) (e : checkLent n N h
   accepted-table = rw e
 
   -- the lengths that were found exact
-  exact : (hasLength rows (suc n * N) ≡ true) × (hasLength lambda N ≡ true) × (hasLength delta N ≡ true) × (hasLength table (suc n * N) ≡ true)
+  pub exact : (hasLength rows (suc n * N) ≡ true) × (hasLength lambda N ≡ true) × (hasLength delta N ≡ true) × (hasLength table (suc n * N) ≡ true)
   exact =
       let r = and-both (hasLength rows (suc n * N)) (hasLength lambda N && (hasLength delta N && hasLength table (suc n * N))) (lengths-exact lengths (parts .1)) in
       let s = and-both (hasLength lambda N) (hasLength delta N && hasLength table (suc n * N)) (r .1) in

@@ -6,24 +6,26 @@ use Prim.Native.Nat.{ℕ, suc, _*_, _≤_, _<_}
 use native.Mathlib.Omega.{arith}
 use lib.ListN.{length}
 use lib.Dec.{eqb, ltb}
-use borrow.Author.Tests.{ltb-false, le-ltb, eqb-true, eq-eqb, ne-eqb, not-true, not-false}
+use borrow.Author.Tests.{ltb-false, le-ltb, eqb-true, eqb-false, eq-eqb, ne-eqb, not-true, not-false}
 use Rattle.maps.specs.Verdict.{accepted, _then_, scan}
 use Rattle.maps.specs.Map.{Involutions, Valid}
 use Rattle.maps.specs.Mark.{isMark, stay}
 use Rattle.maps.specs.Kernel.{Kernel}
 use Rattle.maps.specs.Table.{entry, each, listed}
 use Rattle.maps.specs.Folded.{On, survives, refusedMarks, marks, addΛ, addΔ, foldΛ, foldΔ, level, levelTable}
+use Rattle.maps.specs.MarkRow.{Row}
 use Rattle.maps.specs.Pyramid.{Pyramid}
 use Rattle.maps.specs.Check.{at8, check8, checkMap, checkKernel, checkKernels, checkPyramid}
 use Rattle.maps.specs.Sizes.{number1, number2, number3, number4, hasLength, sizes}
 use Rattle.maps.specs.CheckPyramid.{leftBehind}
 use Rattle.maps.specs.AddLevel.{refusedMark, atRow8, number20, addLent, addLambda, addDelta, addLeaves}
-use Rattle.facts.proofs.Verdicts.{then-accepted, when-accepted, scan-accepted, scan-all}
-use Rattle.facts.proofs.Sizes.{Sized, sizes-sized}
-use Rattle.facts.proofs.Tables.{length-listed, getD-listed, listed-of, listed-same, explicit-same}
+use Rattle.maps.specs.Readded.{rowBack, lambdaUpto, deltaUpto, Readded}
+use Rattle.laws.proofs.Verdicts.{then-accepted, when-accepted, scan-accepted, scan-all}
+use Rattle.laws.proofs.Sizes.{Sized, sizes-sized, lengths-exact}
+use Rattle.laws.proofs.Tables.{length-listed, getD-listed, listed-of, listed-same, explicit-same}
 use Rattle.facts.proofs.Levels.{Level, level-valid, marks-at, taken-is, allowed-small}
 use Rattle.facts.proofs.Agreement.{kernel-same, level-same}
-use Rattle.facts.proofs.Adding.{Row, marks-not, added}
+use Rattle.facts.proofs.Adding.{marks-not, added}
 use Rattle.facts.proofs.Folding.{Folds, folds, upto, folded-back}
 use Rattle.facts.proofs.Checks.{map-sound, valid-base, sound-kernel, pyramid-check}
 use Rattle.facts.proofs.Climbing.{checked-pyramid, checked-kernel}
@@ -83,11 +85,13 @@ module _ (n N h : ℕ) (rows lambda delta row table : List ℕ) (e : addLent n N
   abbrev mark : ℕ → ℕ
   mark = each row
 
-  record Parts : Type 0 where
-    sized : Sized n N h
+  pub record Parts : Type 0 where
+    pub sized : Sized n N h
+    pub fit : hasLength rows (suc n * N) && (hasLength lambda N && (hasLength delta N && (hasLength row N && hasLength table (suc n * N)))) ≡ true
+    pub room : h ≡ 32 → ⊥
     base : Valid a n (λ d. d < N)
     allowed : (d : ℕ) → d < N → refusedMarks n h (Λ d) (Δ d) ≡ false
-    marked : Row n N h Λ mark
+    pub marked : Row n N h Λ mark
     kernels : checkKernels a n N h Λ Δ ≡ accepted
     kernel : checkKernel (level a n N (marks h Λ Δ) h) n N mark h ≡ accepted
 
@@ -97,8 +101,8 @@ module _ (n N h : ℕ) (rows lambda delta row table : List ℕ) (e : addLent n N
     rest = λ d ld q. eqb-true (mark d) stay (rw q at (not-false (cond (isMark n (mark d)) (eqb (Λ d) h) (eqb (mark d) stay)) (f d ld)));
   }
 
-  parts : Parts
-  unfolding addLent atRow8 at8 check8
+  pub parts : Parts
+  unfolding addLent number20 atRow8 at8 check8
   parts =
       let last = checkKernel (level a n N (marks h Λ Δ) h) n N mark h in
       let v₇ = checkKernels a n N h Λ Δ then last in
@@ -117,6 +121,8 @@ module _ (n N h : ℕ) (rows lambda delta row table : List ℕ) (e : addLent n N
       let s = sizes-sized n N h (e₁ .0) in
       record {
         sized = s;
+        fit = lengths-exact exact (e₂ .0);
+        room = eqb-false h 32 (when-accepted (eqb h 32) 20 0 0 0 (e₃ .0));
         base = valid-base a n N h Λ Δ (omega arith) (map-sound a n N (λ d. true) (e₄ .0));
         allowed = λ d ld. when-accepted (refusedMarks n h (Λ d) (Δ d)) 8 0 0 d (scan-accepted N (at8 a n N h Λ Δ) (e₅ .0) d ld);
         marked = row-of (λ d ld. when-accepted (refusedMark n N h rows lambda delta row table d) 8 h 0 d (scan-accepted N (atRow8 n N h rows lambda delta row table) (e₆ .0) d ld));
@@ -171,22 +177,7 @@ module _ (a : Involutions) (n N h : ℕ) (Λ Δ : ℕ → ℕ) (y : Pyramid a n 
 
 -- Adding the rows that were read back, one after the other, to the base: each is accepted, and gives the Λ, Δ and table of that height.
 module _ (n N h : ℕ) (rows lambda delta : List ℕ) (y : Pyramid (entry N rows) n N h (each lambda) (each delta)) where
-  abbrev pub rowBack : ℕ → List ℕ
-  rowBack k = listed (marks h (each lambda) (each delta) k) N
-
-  abbrev pub lambdaUpto : ℕ → List ℕ
-  lambdaUpto k = listed (foldΛ n (marks h (each lambda) (each delta)) k) N
-
-  abbrev pub deltaUpto : ℕ → List ℕ
-  deltaUpto k = listed (foldΔ n (marks h (each lambda) (each delta)) k) N
-
-  pub record Readded (k : ℕ) (table : List ℕ) : Type 0 where
-    pub verdict : addLent n N k rows (lambdaUpto k) (deltaUpto k) (rowBack k) table ≡ accepted
-    pub lambda-next : addLambda n N k rows (lambdaUpto k) (deltaUpto k) (rowBack k) table ≡ lambdaUpto (suc k)
-    pub delta-next : addDelta n N k rows (lambdaUpto k) (deltaUpto k) (rowBack k) table ≡ deltaUpto (suc k)
-    pub table-next : addLeaves n N k rows (lambdaUpto k) (deltaUpto k) (rowBack k) table ≡ levelTable (entry N rows) n N h (each lambda) (each delta) (suc k)
-
-  pub whole-height : length lambda ≡ N → length delta ≡ N → (lambdaUpto h ≡ lambda) × (deltaUpto h ≡ delta)
+  pub whole-height : length lambda ≡ N → length delta ≡ N → (lambdaUpto n N h lambda delta h ≡ lambda) × (deltaUpto n N h lambda delta h ≡ delta)
   whole-height e f = (
     sym (listed-of (foldΛ n (marks h (each lambda) (each delta)) h) N lambda e (λ d ld. sym (folded-back n h (each lambda) (each delta) (y .dimension) d (y .allowed d ld) .0))),
     sym (listed-of (foldΔ n (marks h (each lambda) (each delta)) h) N delta f (λ d ld. sym (folded-back n h (each lambda) (each delta) (y .dimension) d (y .allowed d ld) .1))),
@@ -200,13 +191,13 @@ module _ (n N h : ℕ) (rows lambda delta : List ℕ) (y : Pyramid (entry N rows
     ks = marks h (each lambda) (each delta)
 
     abbrev L : ℕ → ℕ
-    L = each (lambdaUpto k)
+    L = each (lambdaUpto n N h lambda delta k)
 
     abbrev D : ℕ → ℕ
-    D = each (deltaUpto k)
+    D = each (deltaUpto n N h lambda delta k)
 
     abbrev R : ℕ → ℕ
-    R = each (rowBack k)
+    R = each (rowBack N h lambda delta k)
 
     sameL : (d : ℕ) → d < N → foldΛ n ks k d ≡ L d
     sameL d ld = sym (getD-listed (foldΛ n ks k) N d 0 ld)
@@ -244,14 +235,14 @@ module _ (n N h : ℕ) (rows lambda delta : List ℕ) (y : Pyramid (entry N rows
     kernel-lists =
         kernel-same (level a₁ n N ks k) (level a₁ n N (marks k L D) k) n (On N (each lambda) k) (On N L k) (ks k) R (level-valid a₁ n N h (each lambda) (each delta) y k (omega arith)) (y .kernel k z) level-is (λ d o. sameR d (o .0)) on-lists
 
-    refused-none : (d : ℕ) → d < N → refusedMark n N k rows (lambdaUpto k) (deltaUpto k) (rowBack k) table d ≡ false
+    refused-none : (d : ℕ) → d < N → refusedMark n N k rows (lambdaUpto n N h lambda delta k) (deltaUpto n N h lambda delta k) (rowBack N h lambda delta k) table d ≡ false
     refused-none d ld = go (isMark n (R d)) refl
       where
-        go : (x : Bool) → isMark n (R d) ≡ x → refusedMark n N k rows (lambdaUpto k) (deltaUpto k) (rowBack k) table d ≡ false
+        go : (x : Bool) → isMark n (R d) ≡ x → refusedMark n N k rows (lambdaUpto n N h lambda delta k) (deltaUpto n N h lambda delta k) (rowBack N h lambda delta k) table d ≡ false
         go true q = rw (q, eq-eqb (L d) k (row-lists .top d ld q))
         go false q = rw (q, eq-eqb (R d) stay (row-lists .rest d ld q))
 
-    verdict : addLent n N k rows (lambdaUpto k) (deltaUpto k) (rowBack k) table ≡ accepted
+    verdict : addLent n N k rows (lambdaUpto n N h lambda delta k) (deltaUpto n N h lambda delta k) (rowBack N h lambda delta k) table ≡ accepted
     unfolding addLent number4 number20 atRow8
     verdict =
         let s = sizes-sized n N h sized in
@@ -259,14 +250,14 @@ module _ (n N h : ℕ) (rows lambda delta : List ℕ) (y : Pyramid (entry N rows
         rw (
           sizes-lower n N h k (omega arith) sized,
           eq-eqb (length rows) (suc n * N) long,
-          eq-eqb (length (lambdaUpto k)) N (length-listed (foldΛ n ks k) N),
-          eq-eqb (length (deltaUpto k)) N (length-listed (foldΔ n ks k) N),
-          eq-eqb (length (rowBack k)) N (length-listed (ks k) N),
+          eq-eqb (length (lambdaUpto n N h lambda delta k)) N (length-listed (foldΛ n ks k) N),
+          eq-eqb (length (deltaUpto n N h lambda delta k)) N (length-listed (foldΔ n ks k) N),
+          eq-eqb (length (rowBack N h lambda delta k)) N (length-listed (ks k) N),
           eq-eqb (length table) (suc n * N) table-long,
           ne-eqb k 32 (λ e. omega arith),
           c .0,
           c .1,
-          scan-all N (atRow8 n N k rows (lambdaUpto k) (deltaUpto k) (rowBack k) table) (λ d ld. rw (refused-none d ld)),
+          scan-all N (atRow8 n N k rows (lambdaUpto n N h lambda delta k) (deltaUpto n N h lambda delta k) (rowBack N h lambda delta k) table) (λ d ld. rw (refused-none d ld)),
           c .2,
           sound-kernel (level a₁ n N (marks k L D) k) n N R k (On N L k) (level-valid a₁ n N k L D below k (omega arith)) (λ d o. o .0) (λ d ld q. (ld, omega (arith, row-lists .top d ld q))) kernel-lists,
         )
@@ -288,7 +279,7 @@ module _ (n N h : ℕ) (rows lambda delta : List ℕ) (y : Pyramid (entry N rows
         ∙ explicit-same (level a₁ n N (marks (suc k) (foldΛ n ks (suc k)) (foldΔ n ks (suc k))) (suc k)) (level a₁ n N ks (suc k)) n N (survives (foldΛ n ks (suc k)) (suc k)) (survives (each lambda) (suc k)) survives-fold
         (λ i d li ld q. F′ .maps (suc k) (omega arith) i d li (ld, ltb-false (foldΛ n ks (suc k) d) (suc k) (not-true (ltb (foldΛ n ks (suc k) d) (suc k)) (survives-fold d ld ∙ q))))
 
-    pub readded : Readded k table
+    pub readded : Readded n N h rows lambda delta k table
     unfolding addLambda addDelta addLeaves leftBehind foldΛ foldΔ
     readded = record {
       verdict = verdict;

@@ -10,14 +10,10 @@ use Rattle.maps.specs.Mark.{isMark, stay}
 use Rattle.maps.specs.Kernel.{Kernel}
 use Rattle.maps.specs.Removal.{removal}
 use Rattle.maps.specs.Folded.{On, refusedMarks, marks, addΛ, addΔ, level}
+use Rattle.maps.specs.MarkRow.{Row}
 use Rattle.maps.specs.Pyramid.{Pyramid}
 use Rattle.facts.proofs.Levels.{Level, level-valid, marks-at}
 use Rattle.facts.proofs.Agreement.{removal-local, kernel-same, level-same}
-
--- what a mark row may hold: a mark, on a dart of level h alone, or 255
-pub record Row (n N h : ℕ) (Λ mark : ℕ → ℕ) : Type 0 where
-  pub top : (d : ℕ) → d < N → isMark n (mark d) ≡ true → Λ d ≡ h
-  pub rest : (d : ℕ) → d < N → isMark n (mark d) ≡ false → mark d ≡ stay
 
 -- the marks of darts whose Λ is not l
 pub marks-not : (h : ℕ) (Λ Δ : ℕ → ℕ) (l d : ℕ) → (Λ d ≡ l → ⊥) → marks h Λ Δ l d ≡ stay

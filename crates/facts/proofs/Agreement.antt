@@ -1,16 +1,16 @@
 -- What a removal reads: a survivor's own entry, and the entries of the darts marked. Assumes nothing.
 use mathlib.Core.Path.{_≡_, refl, sym, ap, _∙_}
 use mathlib.Core.Bool.{Bool, true, false}
-use Prim.Native.Nat.{ℕ, zero, suc, _+_, _≤_, _<_}
+use Prim.Native.Nat.{ℕ, zero, suc, _≤_, _<_}
 use native.Mathlib.Omega.{arith}
 use lib.Dec.{eqb}
-use borrow.Author.Tests.{ltb-true}
 use Rattle.maps.specs.Map.{Involutions, Valid}
-use Rattle.maps.specs.Cell.{Cell, itself, onward}
-use Rattle.maps.specs.Mark.{isMark, between}
+use Rattle.maps.specs.Mark.{isMark, between, beyond}
 use Rattle.maps.specs.Kernel.{Kernel}
 use Rattle.maps.specs.Removal.{goOn, removal}
 use Rattle.maps.specs.Folded.{level}
+use Rattle.laws.proofs.Marks.{mark-rows, beyond-row}
+use Rattle.facts.proofs.Commuting.{kernel-commutes, commutes-kernel}
 
 -- Two tables that agree at the darts marked, and two mark rows that agree at the darts present. A dart marked is passed to one of the same mark.
 module _ (a a′ : Involutions) (n : ℕ) (present : ℕ → Type 0) (mark mark′ : ℕ → ℕ)
@@ -26,9 +26,8 @@ module _ (a a′ : Involutions) (n : ℕ) (present : ℕ → Type 0) (mark mark�
       go false q y r ih = rw (← (same d p), q, goOn)
       go true q false r ih = rw (← (same d p), q, r, goOn)
       go true q true r ih =
-          let l : mark d < n = ltb-true (mark d) n q in
           let u = between (mark d) .1 in
-          let lu : u ≤ n = omega arith in
+          let lu : u ≤ n = mark-rows n (mark d) q .second in
           let p₁ = inside u d lu p q in
           let q₁ : isMark n (mark (a u d)) ≡ true = rw (whole d p q) q in
           let s : a i (a u d) ≡ a′ i (a′ u d) = agree i (a u d) li p₁ q₁ ∙ ap (a′ i) (agree u d lu p q) in
@@ -38,42 +37,11 @@ module _ (a a′ : Involutions) (n : ℕ) (present : ℕ → Type 0) (mark mark�
 module _ (a a′ : Involutions) (n : ℕ) (present : ℕ → Type 0) (mark mark′ : ℕ → ℕ) (v : Valid a n present) (k : Kernel a n present mark)
     (agree : (t d : ℕ) → t ≤ n → present d → isMark n (mark d) ≡ true → a t d ≡ a′ t d) (same : (d : ℕ) → present d → mark d ≡ mark′ d) where
   pub passed-whole : (d : ℕ) → present d → isMark n (mark d) ≡ true → mark (a (between (mark d) .1) d) ≡ mark d
-  passed-whole d p q = let l = ltb-true (mark d) n q in k .whole d (between (mark d) .1) p q (omega arith) (λ e. omega arith)
+  passed-whole d p q = let r = mark-rows n (mark d) q in k .whole d (between (mark d) .1) p q (r .second) (λ e. r .two (sym e))
 
   pub removal-local : (N i b : ℕ) → i ≤ n → present b → a i b ≡ a′ i b → removal a n mark N i b ≡ removal a′ n mark′ N i b
   unfolding removal
   removal-local N i b li p e = goOn-local a a′ n present mark mark′ (λ t d lt p q. v .inside t d lt p) passed-whole agree same N i (a i b) li (v .inside i b li p) ∙ ap (goOn a′ n mark′ N i) e
-
--- a kernel of one table is one of another that agrees with it at the darts present
-module _ (a a′ : Involutions) (n : ℕ) (present present′ : ℕ → Type 0) (mark mark′ : ℕ → ℕ) (v : Valid a n present) (k : Kernel a n present mark)
-    (agree : (t d : ℕ) → t ≤ n → present d → a t d ≡ a′ t d) (same : (d : ℕ) → present d → mark d ≡ mark′ d) (sub : (d : ℕ) → present′ d → present d) where
-  cell-same : (δ d e : ℕ) → present d → Cell a′ n δ d e → present e × Cell a n δ d e
-  cell-same δ d e p itself = (p, itself)
-  cell-same δ d _ p (onward e j c lj ne) =
-      let r = cell-same δ d e p c in
-      rw (← (agree j e lj (r .0))) (v .inside j e lj (r .0), onward e j (r .1) lj ne)
-
-  commutes-same : (d e δ : ℕ) → present e → δ + 2 ≤ n → a (δ + 2) (a (δ + 1) e) ≡ a (δ + 1) (a (δ + 2) e) → a′ (δ + 2) (a′ (δ + 1) e) ≡ a′ (δ + 1) (a′ (δ + 2) e)
-  commutes-same d e δ p l c =
-      let i = δ + 1 in
-      let j = δ + 2 in
-      let li : i ≤ n = omega arith in
-      rw (← (agree i e li p), ← (agree j e l p), ← (agree j (a i e) l (v .inside i e li p)), ← (agree i (a j e) li (v .inside j e l p))) c
-
-  pub kernel-same : Kernel a′ n present′ mark′
-  kernel-same = record {
-    whole = λ d j p q lj ne.
-        let p′ = sub d p in
-        let s = same d p′ in
-        let w = k .whole d j p′ (rw s q) lj (rw s ne) in
-        rw (← (agree j d lj p′), ← s, ← (same (a j d) (v .inside j d lj p′))) w;
-    removable = λ d p q l e c.
-        let p′ = sub d p in
-        let s = same d p′ in
-        let r = cell-same (mark′ d) d e p′ c in
-        let q′ : isMark n (mark d) ≡ true = rw s q in
-        commutes-same d e (mark′ d) (r .0) l (rw s at (k .removable d p′ q′) l e (r .1));
-  }
 
 pub valid-same : (a a′ : Involutions) (n : ℕ) (present : ℕ → Type 0) → ((t d : ℕ) → t ≤ n → present d → a t d ≡ a′ t d) → Valid a n present → Valid a′ n present
 valid-same a a′ n present agree v = record {
@@ -83,6 +51,27 @@ valid-same a a′ n present agree v = record {
       let li : i ≤ n = omega arith in
       sym (agree j (a i d) lj (v .inside i d li p) ∙ ap (a′ j) (agree i d li p)) ∙ v .commute i j d f lj p ∙ agree i (a j d) li (v .inside j d lj p) ∙ ap (a′ i) (agree j d lj p);
 }
+
+-- a kernel of one table is one of another that agrees with it at the darts present
+module _ (a a′ : Involutions) (n : ℕ) (present present′ : ℕ → Type 0) (mark mark′ : ℕ → ℕ) (v : Valid a n present) (k : Kernel a n present mark)
+    (agree : (t d : ℕ) → t ≤ n → present d → a t d ≡ a′ t d) (same : (d : ℕ) → present d → mark d ≡ mark′ d) (sub : (d : ℕ) → present′ d → present d) where
+  commutes-same : (d i j : ℕ) → i ≤ n → j ≤ n → present d → a j (a i d) ≡ a i (a j d) → a′ j (a′ i d) ≡ a′ i (a′ j d)
+  commutes-same d i j li lj p c =
+      rw (← (agree i d li p), ← (agree j d lj p), ← (agree j (a i d) lj (v .inside i d li p)), ← (agree i (a j d) li (v .inside j d lj p))) c
+
+  kernel-there : Kernel a′ n present mark′
+  kernel-there =
+      commutes-kernel a′ n present mark′ (valid-same a a′ n present agree v .inside)
+      (λ d j p q lj ne.
+      let s = same d p in
+      let w = k .whole d j p (rw s q) lj (rw s ne) in
+      rw (← (agree j d lj p), ← s, ← (same (a j d) (v .inside j d lj p))) w)
+      (λ d p q h.
+      let s = same d p in
+      commutes-same d (between (mark′ d) .1) (beyond (mark′ d)) (mark-rows n (mark′ d) q .second) (beyond-row n (mark′ d) q h .0) p (rw s at (kernel-commutes a n present mark k d p (rw s q) (rw s h))))
+
+  pub kernel-same : Kernel a′ n present′ mark′
+  kernel-same = let r = kernel-there in record { whole = λ d j p. r .whole d j (sub d p); removable = λ d p. r .removable d (sub d p) }
 
 -- the same kernels give the same levels
 module _ (a : Involutions) (n N h : ℕ) (kernels kernels′ : ℕ → ℕ → ℕ) (present : ℕ → ℕ → Type 0) (down : (l d : ℕ) → present (suc l) d → present l d)

@@ -12,15 +12,12 @@ use Rattle.maps.specs.Folded.{On, gone, level}
 use Rattle.maps.specs.Pyramid.{Pyramid}
 use Rattle.maps.specs.Walk.{Walked, ended, walk}
 use Rattle.maps.specs.ByLevels.{readBase, overLevel, readLevel, byLevels}
-use Rattle.facts.proofs.Counting.{count-le}
+use Rattle.laws.proofs.Counting.{count-le}
 use Rattle.facts.proofs.Runs.{swap, swap-fst, swap-snd, turn, Run, unique}
 use Rattle.facts.proofs.Removals.{Pairs}
+use Rattle.laws.proofs.Marks.{same-mark}
 use Rattle.facts.proofs.Readings.{walks}
 use Rattle.facts.proofs.Levels.{low, high, taken, taken-is, Level, level-suc, level-valid, level-led, widen, join, narrow, wider, level-passing, gone-suc, gone-taken, not-gone}
-
--- the rows of a mark tell the mark
-same-mark : (x y : ℕ) → between x .0 ≡ between y .0 → between x .1 ≡ between y .1 → x ≡ y
-same-mark x y e f = e
 
 module _ (a : Involutions) (n N h : ℕ) (Λ Δ : ℕ → ℕ) (y : Pyramid a n N h Λ Δ) where
   -- the direct walk at level l from row t of dart d ends at e, and `read`, from as many entries read as are given, answers so

@@ -1,5 +1,5 @@
 -- The pyramid check accepts exactly the accepted pyramids. Assumes nothing.
-use mathlib.Core.Path.{_≡_, refl, ap, _∙_}
+use mathlib.Core.Path.{_≡_, refl, ap}
 use mathlib.Core.Bool.{Bool, true, false, _&&_, not, true≢false}
 use Prim.Native.Nat.{ℕ, zero, suc, _+_, _≤_, _<_}
 use native.Mathlib.Omega.{arith}
@@ -7,14 +7,14 @@ use lib.Dec.{eqb, ltb}
 use borrow.Author.Tests.{ltb-true, lt-ltb, eqb-true, eqb-false, eq-eqb, ne-eqb, not-false}
 use Rattle.maps.specs.Verdict.{accepted, refused, when, _then_, scan}
 use Rattle.maps.specs.Map.{Involutions, Valid}
-use Rattle.maps.specs.Cell.{Cell, itself, onward}
-use Rattle.maps.specs.Mark.{isMark, stay, between}
+use Rattle.maps.specs.Mark.{isMark, widest, between, hasBeyond, beyond}
 use Rattle.maps.specs.Kernel.{Kernel}
 use Rattle.maps.specs.Table.{absent}
 use Rattle.maps.specs.Folded.{On, refusedMarks, marks, level}
 use Rattle.maps.specs.Pyramid.{Pyramid}
-use Rattle.maps.specs.Check.{strays, notTwice, notCommuting, at5, at6, at7, check5, check6, check7, checkMap, leaves, notRemovable, at9, at10, check9, check10, checkKernel, at8, check8, kernelAt, checkKernels, checkPyramid}
-use Rattle.facts.proofs.Verdicts.{then-accepted, when-accepted, scan-accepted, scan-all, and-rest, and-both, and-false}
+use Rattle.maps.specs.Check.{strays, notTwice, notCommuting, at5, at6, at7, check5, check6, check7, checkMap, leaves, differs, notFitting, at9, at10, check9, check10, checkKernel, at8, check8, kernelAt, checkKernels, checkPyramid}
+use Rattle.laws.proofs.Verdicts.{then-accepted, when-accepted, scan-accepted, scan-all, and-rest, and-both, and-false}
+use Rattle.facts.proofs.Commuting.{kernel-commutes, commutes-kernel}
 use Rattle.facts.proofs.Levels.{taken-is, level-valid, valid-next, base-level}
 
 -- a test that is refused at no place
@@ -73,47 +73,33 @@ module _ (a : Involutions) (n N : ℕ) (present : ℕ → Bool) where
 
 -- the check of a kernel
 module _ (a : Involutions) (n N : ℕ) (mark : ℕ → ℕ) (l : ℕ) (present : ℕ → Type 0) (v : Valid a n present) (bound : (d : ℕ) → present d → d < N) where
-  -- from a dart of the kernel its whole cell is in it
-  module _ (whole : (d j : ℕ) → present d → isMark n (mark d) ≡ true → j ≤ n → (j ≡ between (mark d) .0 → ⊥) → mark (a j d) ≡ mark d) where
-    cell-marked : (d e : ℕ) → present d → isMark n (mark d) ≡ true → Cell a n (mark d) d e → present e × (mark e ≡ mark d)
-    cell-marked d e p q itself = (p, refl)
-    cell-marked d _ p q (onward e j c lj ne) =
-        let r = cell-marked d e p q c in
-        (v .inside j e lj (r .0), whole e j (r .0) (rw (r .1) q) lj (λ z. ne (z ∙ r .1)) ∙ r .1)
-
   pub kernel-sound : checkKernel a n N mark l ≡ accepted → Kernel a n present mark
   unfolding at9 at10 check9 check10 checkKernel
   kernel-sound e =
       let e₉ = then-accepted (check9 a n N mark l) (check10 a n N mark l) e in
       let nine : (d j : ℕ) → d < N → j ≤ n → leaves a n N mark l d j ≡ false = λ d j ld lj. when-accepted (leaves a n N mark l d j) 9 l j d (scan-accepted (suc n) (at9 a n N mark l d) (scan-accepted N (λ d. scan (suc n) (at9 a n N mark l d)) (e₉ .0) d ld) j (omega arith)) in
-      let ten : (d : ℕ) → d < N → notRemovable a n N mark l d ≡ false = λ d ld. when-accepted (notRemovable a n N mark l d) 10 l (mark d + 1) d (scan-accepted N (at10 a n N mark l) (e₉ .1) d ld) in
+      let ten : (d : ℕ) → d < N → notFitting a n N mark l d ≡ false = λ d ld. when-accepted (notFitting a n N mark l d) 10 l (between (mark d) .1) d (scan-accepted N (at10 a n N mark l) (e₉ .1) d ld) in
       let whole : (d j : ℕ) → present d → isMark n (mark d) ≡ true → j ≤ n → (j ≡ between (mark d) .0 → ⊥) → mark (a j d) ≡ mark d = λ d j p q lj ne.
       let X = eqb (mark (a j d)) (mark d) in
       let r = and-rest (isMark n (mark d)) (not (eqb j (between (mark d) .0)) && not X) q (nine d j (bound d p) lj) in
       eqb-true (mark (a j d)) (mark d) (not-false X (and-rest (not (eqb j (between (mark d) .0))) (not X) (rw (ne-eqb j (between (mark d) .0) ne)) r)) in
-      record {
-        whole = whole;
-        removable = λ d p q f e c.
-            let r = cell-marked whole d e p q c in
-            let X = eqb (a (mark e + 2) (a (mark e + 1) e)) (a (mark e + 1) (a (mark e + 2) e)) in
-            let f′ : mark e + 1 < n = omega (arith, r .1) in
-            let s = and-rest (isMark n (mark e)) (ltb (mark e + 1) n && not X) (rw (r .1) q) (ten e (bound e (r .0))) in
-            let t = eqb-true (a (mark e + 2) (a (mark e + 1) e)) (a (mark e + 1) (a (mark e + 2) e)) (not-false X (and-rest (ltb (mark e + 1) n) (not X) (lt-ltb (mark e + 1) n f′) s)) in
-            rw (r .1) at t;
-      }
+      commutes-kernel a n present mark (v .inside) whole (λ d p q h.
+      let X = a (beyond (mark d)) (a (between (mark d) .1) d) in
+      let Y = a (between (mark d) .1) (a (beyond (mark d)) d) in
+      let s = and-rest (isMark n (mark d)) (hasBeyond n (mark d) && differs a n N mark l d) q (ten d (bound d p)) in
+      eqb-true X Y (not-false (eqb X Y) (and-rest (hasBeyond n (mark d)) (differs a n N mark l d) h s)))
 
   pub sound-kernel : ((d : ℕ) → d < N → isMark n (mark d) ≡ true → present d) → Kernel a n present mark → checkKernel a n N mark l ≡ accepted
   unfolding at9 at10 check9 check10 checkKernel
   sound-kernel marked k =
       let nine : (d j : ℕ) → d < N → j ≤ n → leaves a n N mark l d j ≡ false = λ d j ld lj.
       and-false (isMark n (mark d)) (not (eqb j (between (mark d) .0)) && not (eqb (mark (a j d)) (mark d))) (λ q. leaves-at d j ld lj q (eqb j (between (mark d) .0)) refl marked k) in
-      let ten : (d : ℕ) → d < N → notRemovable a n N mark l d ≡ false = λ d ld.
-      let X = eqb (a (mark d + 2) (a (mark d + 1) d)) (a (mark d + 1) (a (mark d + 2) d)) in
-      and-false (isMark n (mark d)) (ltb (mark d + 1) n && not X) (λ q. and-false (ltb (mark d + 1) n) (not X) (λ f.
-      not-eq (a (mark d + 2) (a (mark d + 1) d)) (a (mark d + 1) (a (mark d + 2) d)) (k .removable d (marked d ld q) q (omega (arith, ltb-true (mark d + 1) n f)) d itself))) in
+      let ten : (d : ℕ) → d < N → notFitting a n N mark l d ≡ false = λ d ld.
+      and-false (isMark n (mark d)) (hasBeyond n (mark d) && differs a n N mark l d) (λ q. and-false (hasBeyond n (mark d)) (differs a n N mark l d) (λ h.
+      not-eq (a (beyond (mark d)) (a (between (mark d) .1) d)) (a (between (mark d) .1) (a (beyond (mark d)) d)) (kernel-commutes a n present mark k d (marked d ld q) q h))) in
       rw (
         scan-all N (λ d. scan (suc n) (at9 a n N mark l d)) (λ d ld. scan-all (suc n) (at9 a n N mark l d) (λ j lj. ap (λ (t : Bool). when t (refused 9 l j d)) (nine d j ld (omega arith)))),
-        scan-all N (at10 a n N mark l) (λ d ld. ap (λ (t : Bool). when t (refused 10 l (mark d + 1) d)) (ten d ld)),
+        scan-all N (at10 a n N mark l) (λ d ld. ap (λ (t : Bool). when t (refused 10 l (between (mark d) .1) d)) (ten d ld)),
       )
     where
       leaves-at : (d j : ℕ) → d < N → j ≤ n → isMark n (mark d) ≡ true → (x : Bool) → eqb j (between (mark d) .0) ≡ x → ((d : ℕ) → d < N → isMark n (mark d) ≡ true → present d) → Kernel a n present mark → (not (eqb j (between (mark d) .0)) && not (eqb (mark (a j d)) (mark d))) ≡ false
@@ -121,7 +107,7 @@ module _ (a : Involutions) (n N : ℕ) (mark : ℕ → ℕ) (l : ℕ) (present :
       leaves-at d j ld lj q false e marked k = rw e (not-eq (mark (a j d)) (mark d) (k .whole d j (marked d ld q) q lj (eqb-false j (between (mark d) .0) e)))
 
 -- the whole pyramid
-module _ (a : Involutions) (n N h : ℕ) (Λ Δ : ℕ → ℕ) (ln : n ≤ stay) where
+module _ (a : Involutions) (n N h : ℕ) (Λ Δ : ℕ → ℕ) (ln : n ≤ widest) where
   pub base-valid : Valid a n (λ d. d < N) → Sound a n N (λ d. true)
   base-valid v = record {
     valid = record { inside = λ i d li p. (v .inside i d li (p .0), refl); twice = λ i d li p. v .twice i d li (p .0); commute = λ i j d f lj p. v .commute i j d f lj (p .0) };

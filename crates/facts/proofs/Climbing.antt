@@ -14,15 +14,16 @@ use Rattle.maps.specs.Kernel.{Kernel}
 use Rattle.maps.specs.Removal.{removal}
 use Rattle.maps.specs.Table.{entry, absent, explicit}
 use Rattle.maps.specs.Folded.{On, gone, survives, refusedMarks, marks, addΛ, addΔ, level, levelTable}
+use Rattle.maps.specs.MarkRow.{Row}
 use Rattle.maps.specs.Pyramid.{Pyramid}
 use Rattle.maps.specs.Check.{checkKernel, kernelAt, checkKernels}
 use Rattle.maps.specs.CheckBase.{present}
 use Rattle.facts.proofs.Levels.{taken-is, narrow}
-use Rattle.facts.proofs.Tables.{explicit-of, explicit-same}
+use Rattle.laws.proofs.Tables.{explicit-of, explicit-same}
 use Rattle.facts.proofs.Checks.{There, Sound, upto, kernel-sound}
 use Rattle.facts.proofs.Stored.{stored-present, stored-sound, stored-check, stored-removal}
-use Rattle.facts.proofs.Adding.{Row, Allowed, removed, never, allowed-cases, level-new}
-use Rattle.facts.proofs.Verdicts.{and-both}
+use Rattle.facts.proofs.Adding.{Allowed, removed, never, allowed-cases, level-new}
+use Rattle.laws.proofs.Verdicts.{and-both}
 
 -- the base, copied, is the explicit table of level 0
 pub base-table : (n N h : ℕ) (rows : List ℕ) (Λ Δ : ℕ → ℕ) → length rows ≡ suc n * N → rows ≡ levelTable (entry N rows) n N h Λ Δ 0
@@ -63,13 +64,16 @@ module _ (a : Involutions) (n N h : ℕ) (Λ Δ : ℕ → ℕ) (ln : n ≤ 4) (l
   pub table-sound : Sound (entry N T) n N (present N T)
   table-sound = stored-sound A n N on few valid-there
 
+  pub table-present : (d : ℕ) → d < N → present N T d ≡ on d
+  table-present = stored-present A n N on few valid-there
+
   -- a row whose marks are on darts of the level
   module _ (row : ℕ → ℕ) (marked : (d : ℕ) → d < N → isMark n (row d) ≡ true → l ≤ Λ d) where
     marked-on : (d : ℕ) → d < N → isMark n (row d) ≡ true → on d ≡ true
     marked-on d ld q = rw (le-ltb (Λ d) l (marked d ld q))
 
     pub marked-present : (d : ℕ) → d < N → isMark n (row d) ≡ true → present N T d ≡ true
-    marked-present d ld q = stored-present A n N on few valid-there d ld ∙ marked-on d ld q
+    marked-present d ld q = table-present d ld ∙ marked-on d ld q
 
     module _ (mark : ℕ → ℕ) (same : (d : ℕ) → d < N → mark d ≡ row d) where
       marked-mark : (d : ℕ) → d < N → isMark n (mark d) ≡ true → on d ≡ true

@@ -12,7 +12,7 @@ use Rattle.maps.specs.Folded.{gone, survives, survivors, removedBelow}
 use Rattle.maps.specs.Walk.{countOf, walk}
 use Rattle.maps.specs.Cost.{reads, cost}
 use Rattle.maps.specs.Pyramid.{Pyramid}
-use Rattle.facts.proofs.Counting.{Mem, Nodup, pigeon, sum-same, sum-add, sum-const, sum-count, gather, length-gather, mem-gather, nodup-gather}
+use Rattle.laws.proofs.Counting.{Mem, Nodup, pigeon, sum-same, sum-add, sum-const, sum-count, gather, length-gather, mem-gather, nodup-gather}
 use Rattle.facts.proofs.Runs.{Reaches, Ground, places, length-places, Place, place-of, passed, passed-count, places-ok, nodup-places, apart}
 use Rattle.facts.proofs.Levels.{low, high, Level}
 use Rattle.facts.proofs.Readings.{base-ground, Walks, walks}

@@ -10,12 +10,13 @@ use Rattle.maps.specs.Folded.{On, survivors, removedBelow, marks, addΛ, addΔ,
 use Rattle.maps.specs.Walk.{ended, countOf, walk}
 use Rattle.maps.specs.ByLevels.{byLevels}
 use Rattle.maps.specs.Cost.{reads, cost}
+use Rattle.maps.specs.MarkRow.{Row}
 use Rattle.maps.specs.Pyramid.{Pyramid}
 use Rattle.facts.proofs.Levels.{level-valid}
 use Rattle.facts.proofs.Readings.{Walks, walks}
 use Rattle.facts.proofs.Costs.{cost-bound}
 use Rattle.facts.proofs.ByLevels.{by-levels}
-use Rattle.facts.proofs.Adding.{Row, level-kept, level-new, added}
+use Rattle.facts.proofs.Adding.{level-kept, level-new, added}
 
 module _ (a : Involutions) (n N h : ℕ) (Λ Δ : ℕ → ℕ) where
   -- of level l

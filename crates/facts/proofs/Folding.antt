@@ -5,21 +5,16 @@ use Prim.Native.Nat.{ℕ, zero, suc, _≤_, _<_}
 use native.Mathlib.Omega.{arith}
 use lib.Dec.{eqb, ltb}
 use borrow.Author.Tests.{eqb-true, eqb-false, eq-eqb, ne-eqb, ltb-true, ltb-false, lt-ltb, le-ltb}
-use Rattle.maps.specs.Map.{Involutions, Valid}
-use Rattle.maps.specs.Mark.{isMark, stay}
+use Rattle.maps.specs.Map.{Involutions}
+use Rattle.maps.specs.Mark.{isMark, widest}
 use Rattle.maps.specs.Kernel.{Kernel}
 use Rattle.maps.specs.Folded.{On, refusedMarks, marks, addΛ, addΔ, foldΛ, foldΔ, level}
+use Rattle.maps.specs.MarkRow.{Row, Kernels}
 use Rattle.maps.specs.Pyramid.{Pyramid}
+use Rattle.laws.proofs.Marks.{stay-none}
 use Rattle.facts.proofs.Levels.{Level, level-valid, marks-at}
 use Rattle.facts.proofs.Agreement.{removal-local, kernel-same, valid-same}
-use Rattle.facts.proofs.Adding.{Row, Allowed, removed, never, allowed-cases, cases-allowed, marks-not, marks-kept, marks-new, on-kept, level-kept, level-new, added}
-
--- kernels 0 to h−1, each a kernel of the level that the removals before it leave
-pub record Kernels (a : Involutions) (n N h : ℕ) (kernels : ℕ → ℕ → ℕ) : Type 0 where
-  pub dimension : n ≤ stay
-  pub base : Valid a n (λ d. d < N)
-  pub row : (l : ℕ) → l < h → Row n N l (foldΛ n kernels l) (kernels l)
-  pub kernel : (l : ℕ) → l < h → Kernel (level a n N kernels l) n (On N (foldΛ n kernels l) l) (kernels l)
+use Rattle.facts.proofs.Adding.{Allowed, removed, never, allowed-cases, cases-allowed, marks-not, marks-kept, marks-new, on-kept, level-kept, level-new, added}
 
 -- folded, they are an accepted pyramid; the mark rows are read back; its levels are those of the removals, kernel by kernel
 pub record Folds (a : Involutions) (n N h : ℕ) (kernels : ℕ → ℕ → ℕ) : Type 0 where
@@ -107,14 +102,14 @@ module _ (a : Involutions) (n N : ℕ) (kernels : ℕ → ℕ → ℕ) where
   folds (suc h) k = next h k (folds h (fewer h k))
 
 -- the rows read back out of allowed marks fold to the same Λ and Δ
-module _ (n h : ℕ) (Λ Δ : ℕ → ℕ) (ln : n ≤ stay) (d : ℕ) (allowed : refusedMarks n h (Λ d) (Δ d) ≡ false) where
+module _ (n h : ℕ) (Λ Δ : ℕ → ℕ) (ln : n ≤ widest) (d : ℕ) (allowed : refusedMarks n h (Λ d) (Δ d) ≡ false) where
   data Row-at (k : ℕ) : Type 0 where
     earlier : Λ d < k → isMark n (marks h Λ Δ k d) ≡ false → Row-at k
     here : Λ d ≡ k → isMark n (marks h Λ Δ k d) ≡ true → marks h Λ Δ k d ≡ Δ d → Row-at k
     later : k < Λ d → isMark n (marks h Λ Δ k d) ≡ false → Row-at k
 
   not-mark : (k : ℕ) → (Λ d ≡ k → ⊥) → isMark n (marks h Λ Δ k d) ≡ false
-  not-mark k ne = rw (marks-not h Λ Δ k d ne) (le-ltb stay n ln)
+  not-mark k ne = rw (marks-not h Λ Δ k d ne) (stay-none n ln)
 
   row-at : (k : ℕ) → k < h → Row-at k
   row-at k z = go (ltb (Λ d) k) refl (eqb (Λ d) k) refl (allowed-cases n h (Λ d) (Δ d) allowed)

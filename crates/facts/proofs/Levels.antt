@@ -6,12 +6,13 @@ use native.Mathlib.Omega.{arith}
 use lib.Dec.{eqb, ltb}
 use borrow.Author.Tests.{eqb-true, eqb-false, eq-eqb, ltb-true, lt-ltb, le-ltb, not-false}
 use Rattle.maps.specs.Map.{Involutions, Valid}
-use Rattle.maps.specs.Mark.{isMark, stay, between}
+use Rattle.maps.specs.Mark.{isMark, stay, widest, between}
 use Rattle.maps.specs.Kernel.{Kernel}
 use Rattle.maps.specs.Folded.{On, gone, refusedMarks, marks, level}
 use Rattle.maps.specs.Pyramid.{Pyramid}
 use Rattle.facts.proofs.Runs.{turn, Passable, Reaches, Run, front, Ground, turn-le, no-both}
 use Rattle.facts.proofs.Removals.{Passing, without, without-valid, led, Led, ground}
+use Rattle.laws.proofs.Marks.{stay-none}
 use Rattle.facts.proofs.Kernels.{removal-without, passing}
 
 -- a test that passes more darts
@@ -67,24 +68,21 @@ module _ (n h : ℕ) (Λ Δ : ℕ → ℕ) where
     pub below : l < h
     pub lambda : Λ d ≡ l
     pub mark : marks h Λ Δ l d ≡ Δ d
-    pub small : Δ d < n
+    pub is-mark : isMark n (Δ d) ≡ true
 
-  pub taken-is : n ≤ stay → (l d : ℕ) → taken l d ≡ true → Taken l d
+  pub taken-is : n ≤ widest → (l d : ℕ) → taken l d ≡ true → Taken l d
   taken-is ln l d q = go (ltb l h) refl (eqb (Λ d) l) refl
     where
       go : (x : Bool) → ltb l h ≡ x → (y : Bool) → eqb (Λ d) l ≡ y → Taken l d
       go true e true f =
           let m : marks h Λ Δ l d ≡ Δ d = rw (e, f) in
-          let k : marks h Λ Δ l d < n = ltb-true (marks h Λ Δ l d) n q in
-          record { below = ltb-true l h e; lambda = eqb-true (Λ d) l f; mark = m; small = rw m at k }
+          record { below = ltb-true l h e; lambda = eqb-true (Λ d) l f; mark = m; is-mark = rw m at q }
       go true e false f =
           let m : marks h Λ Δ l d ≡ stay = rw (e, f) in
-          let k : marks h Λ Δ l d < n = ltb-true (marks h Λ Δ l d) n q in
-          absurd (omega arith)
+          absurd (no-both (isMark n stay) (rw m at q) (stay-none n ln))
       go false e y f =
           let m : marks h Λ Δ l d ≡ stay = rw e in
-          let k : marks h Λ Δ l d < n = ltb-true (marks h Λ Δ l d) n q in
-          absurd (omega arith)
+          absurd (no-both (isMark n stay) (rw m at q) (stay-none n ln))
 
   pub marks-at : (l d : ℕ) → l < h → Λ d ≡ l → marks h Λ Δ l d ≡ Δ d
   marks-at l d k e = rw (lt-ltb l h k, eq-eqb (Λ d) l e)
@@ -92,7 +90,7 @@ module _ (n h : ℕ) (Λ Δ : ℕ → ℕ) where
   pub allowed-small : (d : ℕ) → refusedMarks n h (Λ d) (Δ d) ≡ false → Λ d < h → isMark n (Δ d) ≡ true
   allowed-small d a k = not-false (isMark n (Δ d)) (rw (le-ltb h (Λ d) (omega arith), lt-ltb (Λ d) h k) at a)
 
-module _ (a : Involutions) (n N h : ℕ) (Λ Δ : ℕ → ℕ) (ln : n ≤ stay) where
+module _ (a : Involutions) (n N h : ℕ) (Λ Δ : ℕ → ℕ) (ln : n ≤ widest) where
   rows : (l d : ℕ) → taken n h Λ Δ l d ≡ true → (low Δ d ≡ between (marks h Λ Δ l d) .0) × (high Δ d ≡ between (marks h Λ Δ l d) .1)
   rows l d q = let t = taken-is n h Λ Δ ln l d q in rw (t .mark) (refl, refl)
 

@@ -1,6 +1,6 @@
-pub mod Counting
 pub mod Runs
 pub mod Removals
+pub mod Commuting
 pub mod Kernels
 pub mod Levels
 pub mod Readings
@@ -8,15 +8,14 @@ pub mod Costs
 pub mod Agreement
 pub mod Adding
 pub mod Folding
-pub mod Verdicts
 pub mod Checks
 pub mod AnyTables
 pub mod ByLevels
 pub mod Facts
 pub mod Star
-pub mod Tables
 pub mod Stored
 pub mod Climbing
-pub mod Sizes
 pub mod AcceptedJobs
 pub mod AddedJobs
+pub mod ExactJobs
+pub mod MarksJobs

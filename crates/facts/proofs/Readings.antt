@@ -4,15 +4,16 @@ use mathlib.Core.Logic.{_⊎_, inl, inr}
 use mathlib.Core.Bool.{true, false, or-true}
 use Prim.Native.Nat.{ℕ, zero, suc, _+_, _*_, _≤_, _<_}
 use native.Mathlib.Omega.{arith}
-use lib.Dec.{eqb, ltb}
+use lib.Dec.{eqb}
 use borrow.Author.Tests.{ltb-true, lt-ltb, le-ltb, eq-eqb}
 use Rattle.maps.specs.Map.{Involutions}
-use Rattle.maps.specs.Mark.{canPass, across}
+use Rattle.maps.specs.Mark.{isMark, canPass, across}
 use Rattle.maps.specs.Folded.{On, gone, refusedMarks, removedBelow}
 use Rattle.maps.specs.Walk.{ended, walkFrom, walk}
 use Rattle.maps.specs.Pyramid.{Pyramid}
-use Rattle.facts.proofs.Counting.{count-le}
+use Rattle.laws.proofs.Counting.{count-le}
 use Rattle.facts.proofs.Runs.{swap, Run, Ground, turn-le, short}
+use Rattle.laws.proofs.Marks.{mark-rows}
 use Rattle.facts.proofs.Levels.{low, high, Level, course, allowed-small}
 
 pub can-pass : (Δ : ℕ → ℕ) (d t : ℕ) → (t ≡ low Δ d) ⊎ (t ≡ high Δ d) → canPass (Δ d) t ≡ true
@@ -43,12 +44,12 @@ module _ (a : Involutions) (n N h : ℕ) (Λ Δ : ℕ → ℕ) (y : Pyramid a n 
   base-ground l k = record {
     inside = y .base .inside;
     twice = y .base .twice;
-    low = λ d ld q. let s = ltb-true (Δ d) n (small d ld q) in omega arith;
-    high = λ d ld q. let s = ltb-true (Δ d) n (small d ld q) in omega arith;
+    low = λ d ld q. mark-rows n (Δ d) (is-mark d ld q) .first;
+    high = λ d ld q. mark-rows n (Δ d) (is-mark d ld q) .second;
   }
     where
-      small : (d : ℕ) → d < N → gone Λ l d ≡ true → ltb (Δ d) n ≡ true
-      small d ld q = allowed-small n h Λ Δ d (y .allowed d ld) (omega (arith, ltb-true (Λ d) l q))
+      is-mark : (d : ℕ) → d < N → gone Λ l d ≡ true → isMark n (Δ d) ≡ true
+      is-mark d ld q = allowed-small n h Λ Δ d (y .allowed d ld) (omega (arith, ltb-true (Λ d) l q))
 
   -- the walk of dart b of level l by involution i: the darts that it passes, and that it is short
   pub record Walks (l i b : ℕ) : Type 0 where

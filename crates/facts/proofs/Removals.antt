@@ -2,18 +2,15 @@
 use mathlib.Core.Path.{_≡_, refl, sym, ap, _∙_}
 use mathlib.Core.Logic.{_⊎_, inl, inr}
 use mathlib.Core.Bool.{Bool, true, false, _&&_}
-use Prim.Native.Nat.{ℕ, zero, suc, _+_, _*_, _≤_, _<_}
+use Prim.Native.Nat.{ℕ, zero, suc, _*_, _≤_, _<_}
 use native.Mathlib.Omega.{arith}
 use lib.Dec.{eqb}
 use borrow.Author.Tests.{eqb-true, eqb-false, eq-eqb}
 use Rattle.maps.specs.Count.{count}
 use Rattle.maps.specs.Map.{Involutions, Valid}
-use Rattle.facts.proofs.Counting.{count-le}
+use Rattle.laws.proofs.Counting.{count-le}
+use Rattle.laws.proofs.Marks.{Far}
 use Rattle.facts.proofs.Runs.{swap, swap-fst, swap-snd, turn, Passable, Reaches, Run, unique, front, Ground, rev, at-present, short, ends, no-both}
-
--- rows that are two or more apart
-abbrev pub Far : ℕ → ℕ → Type 0
-Far i j = (i + 2 ≤ j) ⊎ (j + 2 ≤ i)
 
 pub far-ne : (i j : ℕ) → Far i j → i ≡ j → ⊥
 far-ne i j (inl l) e = omega arith

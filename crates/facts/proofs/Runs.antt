@@ -10,7 +10,7 @@ use lib.ListN.{length}
 use lib.Dec.{eqb, ltb}
 use borrow.Author.Tests.{eqb-true, eqb-false, eq-eqb, lt-ltb, le-ltb}
 use Rattle.maps.specs.Count.{count}
-use Rattle.facts.proofs.Counting.{Mem, Nodup, pigeon, count-add, count-same}
+use Rattle.laws.proofs.Counting.{Mem, Nodup, pigeon, count-add, count-same}
 
 -- the other one of the two rows x and y
 unfoldable pub swap : ℕ → ℕ → ℕ → ℕ

@@ -3,6 +3,7 @@ use mathlib.Core.Path.{_≡_}
 use Prim.Native.Nat.{_≤_}
 use lib.Dec.{lit<, lit≤}
 use Rattle.maps.specs.Count.{count}
+use Rattle.maps.specs.Mark.{isMark, between}
 use Rattle.maps.specs.Table.{entry, each}
 use Rattle.maps.specs.Folded.{marks, foldΛ, foldΔ}
 use Rattle.maps.specs.Walk.{ended, walkFrom, walk}
@@ -23,7 +24,7 @@ star-bound = (small-maps .p9 .6, facts (entry 12 (star .rows)) 2 12 2 (each (sta
 
 -- a0 of 7 on level 2, by the fact and not by computation: the neighbour of the removals, with a count of at most 17
 pub star-walk : direct star 2 0 7 ≡ ended 0 (neighbour star 2 0 7) 5
-unfolding reads walk walkFrom
+unfolding isMark between reads walk walkFrom
 star-walk = facts (entry 12 (star .rows)) 2 12 2 (each (star .lambda)) (each (star .delta)) star-pyramid 2 (lit≤ tt) .ends 0 7 (lit≤ tt) (lit< tt, lit≤ tt)
 
 pub star-levels : levelwise star 2 0 7 ≡ direct star 2 0 7

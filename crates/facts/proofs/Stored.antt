@@ -2,20 +2,20 @@
 use mathlib.Core.Path.{_≡_, refl, sym, _∙_}
 use mathlib.Core.Bool.{Bool, true, false, _&&_, not}
 use mathlib.Core.List.{List}
-use Prim.Native.Nat.{ℕ, suc, _+_, _≤_, _<_}
+use Prim.Native.Nat.{ℕ, suc, _≤_, _<_}
 use native.Mathlib.Omega.{arith}
-use lib.Dec.{ltb}
-use borrow.Author.Tests.{ltb-true, ne-eqb, eq-eqb}
+use borrow.Author.Tests.{ne-eqb, eq-eqb}
 use Rattle.maps.specs.Verdict.{refused, when, scan}
 use Rattle.maps.specs.Map.{Involutions, Valid}
-use Rattle.maps.specs.Mark.{isMark}
+use Rattle.maps.specs.Mark.{isMark, between, hasBeyond, beyond}
 use Rattle.maps.specs.Kernel.{Kernel}
 use Rattle.maps.specs.Removal.{removal}
 use Rattle.maps.specs.Table.{entry, absent, explicit}
-use Rattle.maps.specs.Check.{leaves, notRemovable, at9, at10, check9, check10, checkKernel}
+use Rattle.maps.specs.Check.{leaves, notFitting, at9, at10, check9, check10, checkKernel}
 use Rattle.maps.specs.CheckBase.{present}
-use Rattle.facts.proofs.Verdicts.{scan-same, and-both}
-use Rattle.facts.proofs.Tables.{entry-explicit, explicit-same}
+use Rattle.laws.proofs.Verdicts.{scan-same, and-both}
+use Rattle.laws.proofs.Tables.{entry-explicit, explicit-same}
+use Rattle.laws.proofs.Marks.{mark-rows, beyond-row}
 use Rattle.facts.proofs.Agreement.{removal-local, valid-same}
 use Rattle.facts.proofs.Checks.{There, Sound}
 
@@ -73,17 +73,17 @@ module _ (a : Involutions) (n N : ℕ) (on : ℕ → Bool) (few : N ≤ absent) 
 
     at10-same : (l d : ℕ) → d < N → at10 (entry N T) n N row l d ≡ at10 a n N mark l d
     unfolding at10
-    at10-same l d ld = go (isMark n (mark d)) refl (ltb (mark d + 1) n) refl
+    at10-same l d ld = go (isMark n (mark d)) refl (hasBeyond n (mark d)) refl
       where
-        go : (x : Bool) → isMark n (mark d) ≡ x → (y : Bool) → ltb (mark d + 1) n ≡ y → when (notRemovable (entry N T) n N row l d) (refused 10 l (row d + 1) d) ≡ when (notRemovable a n N mark l d) (refused 10 l (mark d + 1) d)
+        go : (x : Bool) → isMark n (mark d) ≡ x → (y : Bool) → hasBeyond n (mark d) ≡ y → when (notFitting (entry N T) n N row l d) (refused 10 l (between (row d) .1) d) ≡ when (notFitting a n N mark l d) (refused 10 l (between (mark d) .1) d)
         go false q y r = rw (← (same d ld), q)
         go true q false r = rw (← (same d ld), q, r)
         go true q true r =
-            let i = mark d + 1 in
-            let j = mark d + 2 in
+            let i = between (mark d) .1 in
+            let j = beyond (mark d) in
             let o : There a n N on d = (ld, marked d ld q) in
-            let li : i ≤ n = omega (arith, ltb-true (mark d + 1) n r) in
-            let lj : j ≤ n = omega (arith, ltb-true (mark d + 1) n r) in
+            let li : i ≤ n = mark-rows n (mark d) q .second in
+            let lj : j ≤ n = beyond-row n (mark d) q r .0 in
             rw (← (same d ld), q, r, ← (stored i d li o), ← (stored j d lj o), ← (stored j (a i d) lj (v .inside i d li o)), ← (stored i (a j d) li (v .inside j d lj o)))
 
     pub stored-check : (l : ℕ) → checkKernel (entry N T) n N row l ≡ checkKernel a n N mark l

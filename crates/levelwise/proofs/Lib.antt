@@ -1,5 +1,2 @@
-mod Words
-mod Landings
-mod Base
 mod Turns
-mod Questions
+mod Readings

@@ -1,184 +1,132 @@
--- One turn of the walk over a level, by what the code tests. Assumes nothing.
+-- Where a reading ends, and one turn of the walk over a level: what is left of the walk after it is the walk of a dart further on. Assumes nothing.
 use mathlib.Core.Path.{_≡_, refl, sym, ap, _∙_}
-use mathlib.Core.Bool.{Bool, true, false, not}
-use mathlib.Core.List.{List}
-use Prim.Native.Nat.{ℕ, zero, suc, _+_, _-_, _*_, _/_, _%_, _≤_, _<_}
+use mathlib.Core.Bool.{Bool, true, false, cond, _&&_}
+use Prim.Native.Nat.{ℕ, zero, suc, _+_, _-_, _*_, _≤_, _<_}
 use native.Mathlib.Omega.{arith}
-use lib.ListN.{length}
 use lib.Dec.{eqb, ltb}
-use borrow.Author.Tests.{ltb-true, ltb-false, leb-true, eqb-true, lt-ltb, le-ltb, not-false, not-true}
-use Rattle.maps.specs.Table.{entry, each}
-use Rattle.maps.specs.Folded.{refusedMarks}
+use borrow.Author.Tests.{ltb-true}
+use Rattle.maps.specs.Map.{Involutions}
+use Rattle.maps.specs.Mark.{between}
+use Rattle.maps.specs.Folded.{gone, refusedMarks}
 use Rattle.maps.specs.Walk.{Walked, ended, stopped}
-use Rattle.maps.specs.ByLevels.{overLevel, readLevel}
-use Rattle.facts.proofs.Verdicts.{and-both}
-use Rattle.facts.proofs.Levels.{allowed-small}
-use Rattle.levelwise.specs.Reached.{dartOf, countOf, rowOf, walkedOf, inKernel, endsAt, Allowed, Come}
-use Rattle.levelwise.proofs.Words.{told-ended, told-stopped, refused-is, next-row, row-back}
-use Rattle.levelwise.proofs.Landings.{Landed, level-met}
+use Rattle.maps.specs.ByLevels.{readBase, overLevel, readLevel}
+use Rattle.levelwise.specs.Ends.{onward, reached, passed}
 
-module _ (n N h : ℕ) (rows lambda delta : List ℕ) where
-  abbrev level : ℕ → ℕ → ℕ → ℕ → ℕ → ℕ → Walked
-  level i b = readLevel (entry N rows) n N h (each lambda) (each delta) i b
+-- Row t was read with c entries read before, and the reading ended by row u at dart e with c₁: by the row that it began with, at a dart
+-- whose marks are not refused, with more entries read.
+pub record Landed (n N h : ℕ) (Λ Δ : ℕ → ℕ) (t c u e c₁ : ℕ) : Type 0 where
+  pub row : u ≡ t
+  pub dart : e < N
+  pub marks : refusedMarks n h (Λ e) (Δ e) ≡ false
+  pub more : c < c₁
+  pub most : c₁ ≤ 1 + 2 * N
 
-  abbrev over : ℕ → ℕ → ℕ → ℕ → ℕ → ℕ → ℕ → Walked
-  over i b k = overLevel (entry N rows) n N h (each lambda) (each delta) i b (level i b k) k
+module _ (a : Involutions) (n N h : ℕ) (Λ Δ : ℕ → ℕ) (i b : ℕ) where
+  -- how a reading of row t ended, with c entries read before
+  abbrev pub Met : ℕ → ℕ → Walked → Type 0
+  Met t c (ended u e c₁) = Landed n N h Λ Δ t c u e c₁
+  Met t c (stopped number row dart) = Unit {0}
 
-  -- r is what row t of dart d gives on level k, c entries being read before
-  abbrev Gives : ℕ → ℕ → ℕ → ℕ → ℕ → Type 0
-  Gives k t d c r = (i b : ℕ) → walkedOf i b r ≡ level i b k t d c
+  either : (t c : ℕ) (x : Bool) (v w : Walked) → Met t c v → Met t c w → Met t c (cond x v w)
+  either t c true v w m k = m
+  either t c false v w m k = k
 
-  module _ (k t d c r : ℕ) (w : Gives k t d c r) where
-    read-is : r < 9223372036854775808 → (i b : ℕ) → level i b k t d c ≡ ended (rowOf r) (dartOf r) (countOf r)
-    read-is x i b = sym (w i b) ∙ told-ended i b r x
+  -- what began with more entries read began with fewer as well
+  sooner : (t c k : ℕ) → c < k → (w : Walked) → Met t k w → Met t c w
+  sooner t c k x (stopped number row dart) m = tt
+  sooner t c k x (ended u e k₁) m = record { row = m .row; dart = m .dart; marks = m .marks; more = omega (arith, m .more); most = m .most }
 
-    pub landed : r < 9223372036854775808 → Landed n N h (each lambda) (each delta) t c (rowOf r) (dartOf r) (countOf r)
-    landed x = rw (read-is x 0 0) at (level-met (entry N rows) n N h (each lambda) (each delta) 0 0 k t d c)
+  -- what goes on from where a reading of row s landed
+  onward-met : (s t c : ℕ) (w : Walked) (go : ℕ → ℕ → ℕ → Walked) → Met s c w → ((u e k : ℕ) → Landed n N h Λ Δ s c u e k → Met t c (go u e k)) → Met t c (onward w go)
+  onward-met s t c (stopped number row dart) go m f = tt
+  onward-met s t c (ended u e k) go m f = f u e k m
 
-    read-by : r < 9223372036854775808 → (i b : ℕ) → level i b k t d c ≡ ended t (dartOf r) (countOf r)
-    read-by x i b = read-is x i b ∙ ap (λ (u : ℕ). ended u (dartOf r) (countOf r)) (landed x .row)
+  onward-same : (s c : ℕ) (w : Walked) (f g : ℕ → ℕ → ℕ → Walked) → Met s c w → ((u e k : ℕ) → Landed n N h Λ Δ s c u e k → f u e k ≡ g u e k) → onward w f ≡ onward w g
+  onward-same s c (stopped number row dart) f g m same = refl
+  onward-same s c (ended u e k) f g m same = same u e k m
 
-    first-over : (i b : ℕ) → level i b (suc k) t d c ≡ over i b k (suc (2 * N)) t d c
-    unfolding readLevel
-    first-over i b = let z : 1 + 2 * N ≡ suc (2 * N) = omega arith in ap (λ (m : ℕ). over i b k m t d c) z
-
-    -- a first reading that is refused is what the turn gives, whatever turns are left
-    refused-over : 9223372036854775808 ≤ r → (times i b : ℕ) → walkedOf i b r ≡ over i b k (suc times) t d c
-    unfolding overLevel
-    refused-over x times i b =
-        let z = told-stopped i b r x in
-        let p : level i b k t d c ≡ stopped (z .number) (z .row) (z .dart) = sym (w i b) ∙ z .is in
-        z .is ∙ sym (rw (p, overLevel))
-
-    first-lands : r < 9223372036854775808 → suc k ≤ each lambda (dartOf r) → Gives (suc k) t d c r
-    unfolding overLevel
-    first-lands x y i b = told-ended i b r x ∙ sym (first-over i b ∙ rw (read-is x i b, le-ltb (each lambda (dartOf r)) (suc k) y, overLevel))
-
-    pub first-ends : endsAt lambda (suc k) r ≡ true → Gives (suc k) t d c r
-    first-ends x = go (ltb r 9223372036854775808) refl
-      where
-        go : (y : Bool) → ltb r 9223372036854775808 ≡ y → Gives (suc k) t d c r
-        go false q i b = refused-over (ltb-false r 9223372036854775808 q) (2 * N) i b ∙ sym (first-over i b)
-        go true q i b = first-lands (ltb-true r 9223372036854775808 q) (leb-true (suc k) (each lambda (dartOf r)) (rw q at x)) i b
-
-    pub first-come : r < 9223372036854775808 → Come n N h rows lambda delta k t r (λ i b. level i b (suc k) t d c)
-    first-come x = record { times = 2 * N; from = d; before = c; enough = omega (arith, landed x .more); read = read-by x; same = first-over }
-
-  -- what goes on is not refused
-  pub goes-on : (l r : ℕ) → endsAt lambda l r ≡ false → r < 9223372036854775808
-  goes-on l r x = go (ltb r 9223372036854775808) refl
+  base-met : (t d c : ℕ) → Met t c (readBase a n N h Λ Δ i b t d c)
+  unfolding readBase
+  base-met t d c = go (ltb c (1 + 2 * N)) refl (ltb (a t d) N) refl (refusedMarks n h (Λ (a t d)) (Δ (a t d))) refl
     where
-      go : (y : Bool) → ltb r 9223372036854775808 ≡ y → r < 9223372036854775808
-      go true q = ltb-true r 9223372036854775808 q
-      go false q = absurd (let z : _≡_ {A = Bool} true false = rw q at x in let o : _≡_ {A = ℕ} 0 1 = cc in omega arith)
+      go : (x : Bool) → ltb c (1 + 2 * N) ≡ x → (y : Bool) → ltb (a t d) N ≡ y → (z : Bool) → refusedMarks n h (Λ (a t d)) (Δ (a t d)) ≡ z → Met t c (readBase a n N h Λ Δ i b t d c)
+      go false p y q z r = rw (p, readBase) tt
+      go true p false q z r = rw (p, q, readBase) tt
+      go true p true q true r = rw (p, q, r, readBase) tt
+      go true p true q false r = rw (p, q, r, readBase) (record { row = refl; dart = ltb-true (a t d) N q; marks = r; more = omega arith; most = omega (arith, ltb-true c (1 + 2 * N) p) })
 
-  -- row t+1 of the dart met, and row t of the dart reached
-  pub across : (k t m r : ℕ) → rowOf m ≡ t → Gives k (rowOf (m + 4294967296)) (dartOf (m + 4294967296)) (countOf (m + 4294967296)) r → Gives k (t + 1) (dartOf m) (countOf m) r
-  across k t m r e w i b =
-      let z = next-row m in
-      let p : rowOf (m + 4294967296) ≡ t + 1 = z .0 ∙ ap (λ (u : ℕ). u + 1) e in
-      w i b ∙ rw (p, z .1, z .2)
+  -- the walk over level l, which `below` reads
+  module _ (below : ℕ → ℕ → ℕ → Walked) (met : (t d c : ℕ) → Met t c (below t d c)) (l : ℕ) where
+    abbrev over : ℕ → ℕ → ℕ → ℕ → Walked
+    over = overLevel a n N h Λ Δ i b below l
 
-  pub back : (k t m r : ℕ) → rowOf m ≡ t + 1 → Gives k (rowOf (m - 4294967296)) (dartOf (m - 4294967296)) (countOf (m - 4294967296)) r → Gives k t (dartOf m) (countOf m) r
-  back k t m r e w i b = let z = row-back t m e in w i b ∙ rw (z .0, z .1, z .2)
+    -- one turn, and then `go` from the dart behind the pass
+    abbrev turn : (ℕ → ℕ → Walked) → ℕ → ℕ → ℕ → Walked
+    turn go t d c = onward (below t d c) (λ u e k. cond (gone Λ (suc l) e) (onward (passed Λ Δ below l u e k) (λ u₂ e₂ k₂. go e₂ k₂)) (ended u e k))
 
-  module _ (k t m : ℕ) (whole : ℕ → ℕ → Walked) (come : Come n N h rows lambda delta k t m whole) (row : rowOf m ≡ t) (small : t ≤ 4) where
-    abbrev e : ℕ
-    e = dartOf m
+    pub passed-met : (t e c : ℕ) → Met (between (Δ e) .1) c (passed Λ Δ below l t e c)
+    passed-met t e c =
+        let s = between (Δ e) .1 in
+        let second = onward-met s s c (below s e c) (reached Λ Δ l e) (met s e c) (λ u d k m. either s c (eqb (Λ d) l && eqb (Δ d) (Δ e)) (ended u d k) (stopped 14 u d) m tt) in
+        either s c (eqb (Λ e) l && eqb (between (Δ e) .0) t) (onward (below s e c) (reached Λ Δ l e)) (stopped 14 t e) second tt
 
-    turn : (i b : ℕ) {w : Walked} → over i b k (suc (come .times)) t (come .from) (come .before) ≡ w → whole i b ≡ w
-    turn i b x = come .same i b ∙ x
-
-    pub lands : suc k ≤ each lambda e → (i b : ℕ) → walkedOf i b m ≡ whole i b
+    -- the definition's turn is that turn, since a reading ends by the row that it began with
+    over-turn : (times t d c : ℕ) → over (suc times) t d c ≡ turn (over times t) t d c
     unfolding overLevel
-    lands y i b = told-ended i b m (omega arith) ∙ ap (λ (u : ℕ). ended u e (countOf m)) row ∙ sym (turn i b (rw (come .read i b, le-ltb (each lambda e) (suc k) y, overLevel)))
+    over-turn times t d c = first (below t d c) refl (met t d c)
+      where
+        second : (e k : ℕ) → below t d c ≡ ended t e k → (x : Bool) → gone Λ (suc l) e ≡ x → (y : Bool) → (eqb (Λ e) l && eqb (between (Δ e) .0) t) ≡ y → (w : Walked) → below (between (Δ e) .1) e k ≡ w → over (suc times) t d c ≡ turn (over times t) t d c
+        second e k p false g y q w r = rw (p, g, overLevel)
+        second e k p true g false q w r = rw (p, g, q, overLevel)
+        second e k p true g true q (stopped number row dart) r = rw (p, g, q, r, overLevel)
+        second e k p true g true q (ended u₂ e₂ k₂) r = last (eqb (Λ e₂) l && eqb (Δ e₂) (Δ e)) refl
+          where
+            last : (z : Bool) → (eqb (Λ e₂) l && eqb (Δ e₂) (Δ e)) ≡ z → over (suc times) t d c ≡ turn (over times t) t d c
+            last false f = rw (p, g, q, r, f, overLevel)
+            last true f = rw (p, g, q, r, f, overLevel)
 
-    module _ (y : each lambda e < suc k) {inside : Bool} (wb : inside ≡ inKernel (each lambda) (each delta) k t e) where
-      pub no-pass : not inside ≡ true → (i b : ℕ) → walkedOf i b (m + 9227312686528724992) ≡ whole i b
-      unfolding overLevel
-      no-pass x i b =
-          let q : inKernel (each lambda) (each delta) k t e ≡ false = sym wb ∙ not-true inside x in
-          refused-is i b 14 m (omega arith) (omega arith) ∙ ap (λ (u : ℕ). stopped 14 u e) row ∙ sym (turn i b (rw (come .read i b, lt-ltb (each lambda e) (suc k) y, q, overLevel)))
+        first : (w : Walked) → below t d c ≡ w → Met t c w → over (suc times) t d c ≡ turn (over times t) t d c
+        first (stopped number row dart) p m = rw (p, overLevel)
+        first (ended u e k) p m = second e k (p ∙ ap (λ (v : ℕ). ended v e k) (m .row)) (gone Λ (suc l) e) refl (eqb (Λ e) l && eqb (between (Δ e) .0) t) refl (below (between (Δ e) .1) e k) refl
 
-      module _ (x : not inside ≡ false) where
-        kernel : inKernel (each lambda) (each delta) k t e ≡ true
-        kernel = sym wb ∙ not-false inside x
+    turn-met : (go : ℕ → ℕ → Walked) (t d c : ℕ) → ((e k : ℕ) → Met t k (go e k)) → Met t c (turn go t d c)
+    turn-met go t d c f = onward-met t t c (below t d c) _ (met t d c) (λ u e k m. either t c (gone Λ (suc l) e) _ (ended u e k) (onward-met (between (Δ e) .1) t c (passed Λ Δ below l u e k) _ (sooner (between (Δ e) .1) c k (m .more) (passed Λ Δ below l u e k) (passed-met u e k)) (λ u₂ e₂ k₂ m₂. sooner t c k₂ (m₂ .more) (go e₂ k₂) (f e₂ k₂))) m)
 
-        mark-is : each delta e ≡ t
-        mark-is = eqb-true (each delta e) t (and-both (eqb (each lambda e) k) (eqb (each delta e) t) kernel .1)
+    over-met : (times t d c : ℕ) → Met t c (over times t d c)
+    unfolding overLevel
+    over-met zero t d c = tt
+    over-met (suc times) t d c = rw (over-turn times t d c) (turn-met (over times t) t d c (over-met times t))
 
-        module _ (r : ℕ) (w : Gives k (t + 1) e (countOf m) r) where
-          next : Gives k (each delta e + 1) e (countOf m) r
-          next = rw mark-is w
+    turn-same : (f g : ℕ → ℕ → Walked) (t d c : ℕ) → ((e k : ℕ) → c + 1 < k → k ≤ 1 + 2 * N → f e k ≡ g e k) → turn f t d c ≡ turn g t d c
+    turn-same f g t d c same =
+        onward-same t c (below t d c) _ _ (met t d c) (λ u e k m. ap (λ (w : Walked). cond (gone Λ (suc l) e) w (ended u e k)) (onward-same (between (Δ e) .1) k (passed Λ Δ below l u e k) _ _ (passed-met u e k) (λ u₂ e₂ k₂ m₂. same e₂ k₂ (omega (arith, m .more, m₂ .more)) (m₂ .most))))
 
-          pub second-refused : 9223372036854775808 ≤ r → (i b : ℕ) → walkedOf i b r ≡ whole i b
-          unfolding overLevel
-          second-refused v i b =
-              let z = told-stopped i b r v in
-              let p : level i b k (each delta e + 1) e (countOf m) ≡ stopped (z .number) (z .row) (z .dart) = sym (next i b) ∙ z .is in
-              z .is ∙ sym (turn i b (rw (come .read i b, lt-ltb (each lambda e) (suc k) y, kernel, p, overLevel)))
+    -- each turn reads entries, so that any number of turns does that is more than the entries left
+    enough : (x y t d c : ℕ) → 1 + 2 * N < x + c → 1 + 2 * N < y + c → c ≤ 1 + 2 * N → over x t d c ≡ over y t d c
+    enough zero y t d c f g k = absurd (omega arith)
+    enough (suc x) zero t d c f g k = absurd (omega arith)
+    enough (suc x) (suc y) t d c f g k = over-turn x t d c ∙ turn-same (over x t) (over y t) t d c (λ e k₂ more most. enough x y t e k₂ (omega arith) (omega arith) most) ∙ sym (over-turn y t d c)
 
-          module _ (v : r < 9223372036854775808) {inside₂ : Bool} (wb₂ : inside₂ ≡ inKernel (each lambda) (each delta) k t (dartOf r)) where
-            read-second : (i b : ℕ) → level i b k (each delta e + 1) e (countOf m) ≡ ended (rowOf r) (dartOf r) (countOf r)
-            read-second = read-is k (each delta e + 1) e (countOf m) r next v
+    -- as many as the definition gives do behind a turn too
+    whole-turn : (t d c : ℕ) → over (1 + 2 * N) t d c ≡ turn (over (1 + 2 * N) t) t d c
+    whole-turn t d c =
+        let z : 1 + 2 * N ≡ suc (2 * N) = omega arith in
+        ap (λ (times : ℕ). over times t d c) z ∙ over-turn (2 * N) t d c ∙ turn-same (over (2 * N) t) (over (1 + 2 * N) t) t d c (λ e k more most. enough (2 * N) (1 + 2 * N) t e k (omega arith) (omega arith) most)
 
-            reached : Landed n N h (each lambda) (each delta) (t + 1) (countOf m) (rowOf r) (dartOf r) (countOf r)
-            reached = landed k (t + 1) e (countOf m) r w v
+  pub level-met : (l t d c : ℕ) → Met t c (readLevel a n N h Λ Δ i b l t d c)
+  unfolding readLevel
+  level-met zero t d c = base-met t d c
+  level-met (suc l) t d c = over-met (readLevel a n N h Λ Δ i b l) (level-met l) l (1 + 2 * N) t d c
 
-            pub second-no-pass : not inside₂ ≡ true → (i b : ℕ) → walkedOf i b (r + 9227312686528724992) ≡ whole i b
-            unfolding overLevel
-            second-no-pass z i b =
-                let q : inKernel (each lambda) (each delta) k (each delta e) (dartOf r) ≡ false = rw mark-is (sym wb₂ ∙ not-true inside₂ z) in
-                refused-is i b 14 r (omega arith) (omega (arith, reached .row)) ∙ sym (turn i b (rw (come .read i b, lt-ltb (each lambda e) (suc k) y, kernel, read-second i b, q, overLevel)))
+  -- the rows of darts on level l
+  abbrev reading : ℕ → ℕ → ℕ → ℕ → Walked
+  reading l = readLevel a n N h Λ Δ i b l
 
-            module _ (z : not inside₂ ≡ false) where
-              -- a turn is left, since the entries are not yet all read
-              left : suc (come .times - 1) ≡ come .times
-              left = omega (arith, reached .more, reached .most, come .enough)
+  -- what the walk over level k, to level l by row t, does from where a reading ended
+  abbrev pub rest : ℕ → ℕ → ℕ → ℕ → ℕ → ℕ → Walked
+  rest k l t u e c = cond (gone Λ l e) (onward (passed Λ Δ (reading k) k u e c) (λ u₂ e₂ c₂. reading l t e₂ c₂)) (ended u e c)
 
-              passed : (i b : ℕ) → whole i b ≡ over i b k (suc (come .times - 1)) t (dartOf r) (countOf r)
-              unfolding overLevel
-              passed i b =
-                  let q : inKernel (each lambda) (each delta) k (each delta e) (dartOf r) ≡ true = rw mark-is (sym wb₂ ∙ not-false inside₂ z) in
-                  turn i b (rw (come .read i b, lt-ltb (each lambda e) (suc k) y, kernel, read-second i b, q, overLevel)) ∙ ap (λ (m : ℕ). over i b k m t (dartOf r) (countOf r)) (sym left)
-
-              module _ (s : ℕ) (w₃ : Gives k t (dartOf r) (countOf r) s) where
-                pub third-refused : 9223372036854775808 ≤ s → (i b : ℕ) → walkedOf i b s ≡ whole i b
-                third-refused u i b = refused-over k t (dartOf r) (countOf r) s w₃ u (come .times - 1) i b ∙ sym (passed i b)
-
-                pub third-come : s < 9223372036854775808 → Come n N h rows lambda delta k t s whole
-                third-come u = record {
-                  times = come .times - 1;
-                  from = dartOf r;
-                  before = countOf r;
-                  enough = omega (arith, left, reached .more, come .enough, landed k t (dartOf r) (countOf r) s w₃ u .more);
-                  read = read-by k t (dartOf r) (countOf r) s w₃ u;
-                  same = passed;
-                }
-
-  -- there is a row t+1
-  pub row-across : (k t d : ℕ) {inside : Bool} → inside ≡ inKernel (each lambda) (each delta) k t d → not inside ≡ false → refusedMarks n h (each lambda d) (each delta d) ≡ false → each lambda d < suc k → suc k ≤ h → t + 1 ≤ n
-  row-across k t d {inside} wb x marks y f =
-      let q : inKernel (each lambda) (each delta) k t d ≡ true = sym wb ∙ not-false inside x in
-      let e : each delta d ≡ t = eqb-true (each delta d) t (and-both (eqb (each lambda d) k) (eqb (each delta d) t) q .1) in
-      omega (arith, e, ltb-true (each delta d) n (allowed-small n h (each lambda) (each delta) d marks (omega arith)))
-
-  -- a walk that ends with its first reading, and one that goes on
-  pub walk-ends : (l t d c r : ℕ) → 0 < l → Gives (l - 1) t d c r → endsAt lambda l r ≡ true → Gives l t d c r
-  walk-ends zero t d c r x w y = absurd (omega arith)
-  walk-ends (suc k) t d c r x w y = let e : suc k - 1 ≡ k = omega arith in first-ends k t d c r (rw e at w) y
-
-  pub walk-goes : (l t d c r s : ℕ) → 0 < l → Gives (l - 1) t d c r → endsAt lambda l r ≡ false → ((whole : ℕ → ℕ → Walked) → Come n N h rows lambda delta (l - 1) (rowOf r) r whole → (i b : ℕ) → walkedOf i b s ≡ whole i b) → Gives l t d c s
-  walk-goes zero t d c r s x w y f = absurd (omega arith)
-  walk-goes (suc k) t d c r s x w y f =
-      let e : suc k - 1 ≡ k = omega arith in
-      let v : Gives k t d c r = rw e at w in
-      let z = goes-on (suc k) r y in
-      f (λ i b. level i b (suc k) t d c) (rw (e, landed k t d c r v z .row) (first-come k t d c r v z))
-
--- where the loop stands: the walk that met the start's dart has met this one, by the same row
-pub record OnWay (limits : ℕ) (rows lambda delta : List ℕ) (l start met : ℕ) : Type 0 where
-  pub row : rowOf met ≡ rowOf start
-  pub dart : dartOf met < length lambda
-  pub marks : Allowed limits lambda delta met
-  pub come : (whole : ℕ → ℕ → Walked) → Come (limits / 256) (length lambda) (limits % 256) rows lambda delta (l - 1) (rowOf start) start whole → Come (limits / 256) (length lambda) (limits % 256) rows lambda delta (l - 1) (rowOf start) met whole
+  pub level-turn : (l : ℕ) → 0 < l → (t d c : ℕ) → reading l t d c ≡ onward (reading (l - 1) t d c) (rest (l - 1) l t)
+  unfolding readLevel
+  level-turn zero x t d c = absurd (omega arith)
+  level-turn (suc l) x t d c = let z : suc l - 1 ≡ l = omega arith in rw z (whole-turn (reading l) (level-met l) l t d c)

@@ -5,7 +5,7 @@ use mathlib.Core.List.{List, [], _∷_}
 use Prim.Native.Nat.{ℕ, zero, suc}
 use Rattle.maps.specs.Verdict.{Verdict, accepted, refused, scan}
 use Rattle.maps.specs.Count.{count, sum}
-use Rattle.maps.specs.Mark.{across}
+use Rattle.maps.specs.Mark.{isMark, between, hasBeyond, beyond, across}
 use Rattle.maps.specs.Removal.{goOn, removal}
 use Rattle.maps.specs.Table.{entry, each, listed, explicit}
 use Rattle.maps.specs.Folded.{gone, marks, level, levelTable}
@@ -112,7 +112,7 @@ pub record SmallMaps : Type 0 where
   pub p10 : verdict hub ≡ refused 10 0 1 0
 
 pub small-maps : SmallMaps
-unfolding scan count sum goOn removal listed explicit level walkFrom walk readBase overLevel readLevel byLevels reads cost at5 at6 at7 check5 check6 check7 checkMap at9 at10 check9 check10 checkKernel at8 check8 kernelAt checkKernels checkPyramid rowsRead
+unfolding isMark between hasBeyond beyond scan count sum goOn removal listed explicit level walkFrom walk readBase overLevel readLevel byLevels reads cost at5 at6 at7 check5 check6 check7 checkMap at9 at10 check9 check10 checkKernel at8 check8 kernelAt checkKernels checkPyramid rowsRead
 small-maps = record {
   p1 = (refl, refl, refl, refl);
   p2 = (refl, refl, refl);

@@ -2,11 +2,13 @@ pub mod Verdict
 pub mod Count
 pub mod Map
 pub mod Cell
+pub mod Orbit
 pub mod Mark
 pub mod Kernel
 pub mod Removal
 pub mod Table
 pub mod Folded
+pub mod MarkRow
 pub mod Walk
 pub mod ByLevels
 pub mod Cost
@@ -16,6 +18,7 @@ pub mod Sizes
 pub mod CheckBase
 pub mod CheckPyramid
 pub mod AddLevel
+pub mod Readded
 pub mod MarksBack
 pub mod Read
 pub mod Unfold
@@ -23,3 +26,4 @@ pub mod Row
 pub mod Survivors
 pub mod MarkCells
 pub mod Record
+pub mod Accepted

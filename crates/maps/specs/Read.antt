@@ -10,23 +10,23 @@ use Rattle.maps.specs.Folded.{gone, refusedMarks}
 use Rattle.maps.specs.Walk.{Walked, ended, stopped, walk}
 use Rattle.maps.specs.ByLevels.{byLevels}
 
--- a neighbour with its count, or a refusal
+-- Scope: 'Read one neighbour'. A neighbour with its count, or a refusal.
 pub data Reading : Type 0 where
   found : (neighbour count : ℕ) → Reading
   none : (number level involution dart : ℕ) → Reading
 
--- a refusal before the walk, else what the walk gives
+-- Scope: 'Read one neighbour'. A refusal before the walk, else what the walk gives.
 abbrev pub unless : Verdict → Reading → Reading
 unless accepted reading = reading
 unless (refused number level involution dart) reading = none number level involution dart
 
--- The level is the one asked; the involution is the row read last for 5, 14 and 8 of a dart met, else the one asked.
+-- Scope: 'Fields'. A walk's refusal has the level asked, and the row that the walk says.
 abbrev pub readingOf : ℕ → Walked → Reading
 readingOf l (ended row dart count) = found dart count
 readingOf l (stopped number row dart) = none number l row dart
 
 module _ (n N h : ℕ) (rows lambda delta : List ℕ) (l i d : ℕ) where
-  -- 1 2 3 4 11 13, then 12 (N or more), then 8 and 12 of the starting dart
+  -- Scope: 'Order of tests'. Sizes, lengths, level and involution, then 12 of a dart that isn't there, then 8 and 12 of the starting dart.
   unfoldable pub question : Verdict
   question =
       sizes n N h
@@ -36,8 +36,10 @@ module _ (n N h : ℕ) (rows lambda delta : List ℕ) (l i d : ℕ) where
       then (when (refusedMarks n h (each lambda d) (each delta d)) (refused 8 l i d)
       then when (gone (each lambda) l d) (refused 12 l i d))))))
 
+  -- Scope: 'Read one neighbour'. The answer by the direct walk.
   unfoldable pub readLent : Reading
   readLent = unless question (readingOf l (walk (entry N rows) n N h (each lambda) (each delta) l i d))
 
+  -- Scope: 'Read by levels'. The answer by levels.
   unfoldable pub readLentByLevels : Reading
   readLentByLevels = unless question (readingOf l (byLevels (entry N rows) n N h (each lambda) (each delta) i d l))

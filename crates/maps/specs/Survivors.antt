@@ -2,12 +2,13 @@
 use mathlib.Core.Bool.{Bool, _&&_}
 use mathlib.Core.List.{List}
 use Prim.Native.Nat.{ℕ, _+_, _*_, _^_}
+use lib.Count.{ones}
 use lib.Dec.{ltb}
 use Rattle.maps.specs.Verdict.{Verdict, refused, when, ifAccepted, _then_, scan}
 use Rattle.maps.specs.Count.{one, sum}
 use Rattle.maps.specs.Sizes.{sizes, number4, number11, hasLength}
 use Rattle.maps.specs.Table.{each, listed}
-use Rattle.maps.specs.Folded.{survives, survivors}
+use Rattle.maps.specs.Folded.{survives}
 
 module _ (N h : ℕ) (lambda : List ℕ) (l : ℕ) (words : List ℕ) where
   -- Scope: 'Survivor words'. Of 8 only Λ > h is tested, with the level asked and involution 0.
@@ -30,6 +31,6 @@ module _ (N h : ℕ) (lambda : List ℕ) (l : ℕ) (words : List ℕ) where
   unfoldable pub survivorWords : List ℕ
   survivorWords = ifAccepted survivorsLent (listed word 64) words
 
-  -- Scope: 'Survivor words'. How many survive; 0 in a refusal.
+  -- Scope: 'Survivor words'. The survivor count is the number of ones in the words; 0 in a refusal.
   unfoldable pub survivorCount : ℕ
-  survivorCount = ifAccepted survivorsLent (survivors N (each lambda) l) 0
+  survivorCount = ifAccepted survivorsLent (sum (λ w. ones (word w)) 64) 0

@@ -6,20 +6,20 @@ use Rattle.maps.specs.Map.{Involutions}
 use Rattle.maps.specs.Mark.{canPass, across}
 use Rattle.maps.specs.Folded.{gone, refusedMarks}
 
--- How a walk ends: by the row read last, at a dart, with the number of base entries read; or refused, with number, row and dart.
+-- Scope: 'Direct walk'. How a walk ends: by the row read last, at a dart, with the number of base entries read; or refused, with number, row and dart.
 pub data Walked : Type 0 where
   ended : (row dart count : ℕ) → Walked
   stopped : (number row dart : ℕ) → Walked
 
--- Counts are 0 in a refusal.
+-- Scope: 'Left behind'. A walk's count, 0 in a refusal.
 abbrev pub countOf : Walked → ℕ
 countOf (ended row dart count) = count
 countOf (stopped number row dart) = 0
 
 -- Direct walk of dart b at level l by involution i.
 module _ (a : Involutions) (n N h : ℕ) (Λ Δ : ℕ → ℕ) (l i b : ℕ) where
-  -- Row t of dart d is read next; c entries are read, k more may be. At each read come 15 (dart = the start), 5 (dart = where the
-  -- entry was read), then 8 and 14 of the dart met. While the dart met has Λ < l, it is passed as its Δ lets the walk do.
+  -- Scope: 'Direct walk'. Row t of dart d is read next; c entries are read, k more may be. At each read come 15, 5, then 8 and 14 of the dart
+  -- met. While the dart met has Λ < l, it is passed as its mark lets the walk do.
   unfoldable pub walkFrom : ℕ → ℕ → ℕ → ℕ → Walked
   walkFrom zero t d c = stopped 15 i b
   walkFrom (suc k) t d c = elim (ltb (a t d) N) [
@@ -36,6 +36,6 @@ module _ (a : Involutions) (n N h : ℕ) (Λ Δ : ℕ → ℕ) (l i b : ℕ) whe
     ]
   ]
 
-  -- read a_i of b, with t = i; 15: the walk needs more than 1 + 2N reads
+  -- Scope: 'Direct walk'. The walk begins with row i of dart b, and may read 1 + 2N entries.
   unfoldable pub walk : Walked
   walk = walkFrom (1 + 2 * N) i b 0

@@ -13,9 +13,10 @@ use Rattle.answers.specs.declared.Refusal.the-variants.{Dimension, Darts, Heigh
 use Rattle.answers.specs.declared.Numbers.{Numbers}
 use Rattle.answers.specs.declared.Check.{Check}
 use Rattle.answers.specs.declared.Check.the-variants.{Accepted, Refused}
-use Rattle.reading.specs.Answers.{valueOf, checkOf, totalOf}
-use Rattle.reading.specs.declared.Reading.{Reading}
-use Rattle.reading.specs.declared.Reading.the-variants.{Found, Refused as Unread}
+use Rattle.questions.specs.Answers.{valueOf}
+use Rattle.questions.specs.declared.Reading.{Reading}
+use Rattle.questions.specs.declared.Reading.the-variants.{Found, Refused as Unread}
+use Rattle.reading.specs.Answers.{checkOf, totalOf}
 use Rattle.reading.specs.declared.Total.{Total}
 use Rattle.reading.specs.declared.Total.the-variants.{Counted, Refused as Uncounted}
 use Rattle.rows.specs.Answers.{verdictOfSurvivors, countOfSurvivors}
@@ -82,11 +83,11 @@ check-told (Refused r) = refusal-told checkFrom Refused (λ k l i d. refl) r
 
 -- the answer of a reading
 abbrev pub readingFrom : Value → Reading
-readingFrom (found neighbour count) = Found neighbour count
+readingFrom (found neighbour count) = Found (record { dart = neighbour; count = count })
 readingFrom (none k l i d) = Unread (refusalFrom k l i d)
 
 pub reading-told : (r : Reading) → readingFrom (valueOf r) ≡ r
-reading-told (Found neighbour count) = refl
+reading-told (Found neighbour) = refl
 reading-told (Unread r) = refusal-told (λ v. readingFrom (unless v (none 0 0 0 0))) Unread (λ k l i d. refl) r
 
 -- the answer of an unfolding: verdict and total

@@ -6,7 +6,7 @@ use Prim.Native.Nat.{ℕ, _<_}
 use Rattle.maps.specs.Verdict.{Verdict, accepted, refused}
 use Rattle.maps.specs.Table.{each}
 use Rattle.maps.specs.MarkCells.{markLent, CellsMarked, MarkLeaves}
-use Rattle.facts.proofs.Tables.{listed-of}
+use Rattle.laws.proofs.Tables.{listed-of}
 
 module _ (n N : ℕ) (table : List ℕ) (δ : ℕ) (out out′ : List ℕ) (m : CellsMarked n N table δ out) (m′ : CellsMarked n N table δ out′) where
   -- a dart's cell is removable or it is not, and each fixes its mark

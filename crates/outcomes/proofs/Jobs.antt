@@ -3,9 +3,17 @@ use mathlib.Core.Path.{refl, ap, ap₂, sym, _∙_}
 use contract.Lifetimes.{Lfts}
 use denote.Ref.{now}
 use Rattle.answers.specs.Numbers.{verdictOf, said}
-use Rattle.reading.specs.Answers.{valueOf}
+use Rattle.questions.specs.Answers.{valueOf}
 use Rattle.records.specs.Answers.{takenOf}
 use Rattle.answers.proofs.sizes.Reads as sizes
+use Rattle.answers.proofs.both.Reads as both
+use Rattle.answers.proofs.row_fits.Reads as row-fits
+use Rattle.answers.proofs.rows_fit.Reads as rows-fit
+use Rattle.answers.proofs.pyramid_fits.Reads as pyramid-fits
+use Rattle.answers.proofs.lent.Reads as lent
+use Rattle.answers.proofs.asked.Reads as asked
+use Rattle.answers.proofs.is_mark.Reads as is-mark
+use Rattle.answers.proofs.has_beyond.Reads as has-beyond
 use Rattle.answers.proofs.marks_refused.Reads as marks-refused
 use Rattle.answers.proofs.marks_refusal.Reads as marks-refusal
 use Rattle.answers.proofs.numbers_of.Reads as numbers-of
@@ -17,7 +25,7 @@ use Rattle.rows.proofs.marks_of.Reads as marks-of
 use Rattle.rows.proofs.row.Reads as row
 use Rattle.rows.proofs.row_refusal.Reads as row-refusal
 use Rattle.rows.proofs.survivors.Reads as survivors
-use Rattle.reading.proofs.question.Reads as question
+use Rattle.questions.proofs.question.Reads as question
 use Rattle.reading.proofs.read.Reads as read
 use Rattle.reading.proofs.unfold.Reads as unfold-level
 use Rattle.levelwise.proofs.read_by_levels.Reads as by-levels
@@ -94,3 +102,27 @@ marks-refusal-one κs = one-outcome _ _ _ (λ a. verdictOf) checkFrom (λ a. che
 
 pub numbers-of-one : (κs : Lfts 0) → OneOutcome (numbers-of.Learnt κs) (λ r. r) nothing
 numbers-of-one κs = one-outcome _ _ _ (λ a. said) numbersFrom (λ a. numbers-told) _ _ (λ a r s c. (c, refl))
+
+pub both-one : (κs : Lfts 0) → OneOutcome (both.Learnt κs) (λ r. r) nothing
+both-one κs = one-outcome _ _ _ (λ a r. r) (λ r. r) (λ a r. refl) _ _ (λ a r s c. (c, refl))
+
+pub row-fits-one : (κs : Lfts 0) → OneOutcome (row-fits.Learnt κs) (λ r. r) nothing
+row-fits-one κs = one-outcome _ _ _ (λ a r. r) (λ r. r) (λ a r. refl) _ _ (λ a r s c. (c, refl))
+
+pub rows-fit-one : (κs : Lfts 0) → OneOutcome (rows-fit.Learnt κs) (λ r. r) nothing
+rows-fit-one κs = one-outcome _ _ _ (λ a r. r) (λ r. r) (λ a r. refl) _ _ (λ a r s c. (c, refl))
+
+pub pyramid-fits-one : (κs : Lfts 0) → OneOutcome (pyramid-fits.Learnt κs) (λ r. r) nothing
+pyramid-fits-one κs = one-outcome _ _ _ (λ a r. r) (λ r. r) (λ a r. refl) _ _ (λ a r s c. (c, refl))
+
+pub lent-one : (κs : Lfts 0) → OneOutcome (lent.Learnt κs) (λ r. r) nothing
+lent-one κs = one-outcome _ _ _ (λ a. verdictOf) checkFrom (λ a. check-told) _ _ (λ a r s c. (c, refl))
+
+pub asked-one : (κs : Lfts 0) → OneOutcome (asked.Learnt κs) (λ r. r) nothing
+asked-one κs = one-outcome _ _ _ (λ a. verdictOf) checkFrom (λ a. check-told) _ _ (λ a r s c. (c, refl))
+
+pub is-mark-one : (κs : Lfts 0) → OneOutcome (is-mark.Learnt κs) (λ r. r) nothing
+is-mark-one κs = one-outcome _ _ _ (λ a r. r) (λ r. r) (λ a r. refl) _ _ (λ a r s c. (c, refl))
+
+pub has-beyond-one : (κs : Lfts 0) → OneOutcome (has-beyond.Learnt κs) (λ r. r) nothing
+has-beyond-one κs = one-outcome _ _ _ (λ a r. r) (λ r. r) (λ a r. refl) _ _ (λ a r s c. (c, refl))

@@ -1,7 +1,3 @@
-pub mod Questions
-mod Steps
-mod Going
-mod Walking
-mod Entries
-mod Filling
-mod Unfolding
+pub mod Walking
+pub mod Filled
+pub mod Unfolding

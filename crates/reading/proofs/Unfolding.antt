@@ -1,26 +1,39 @@
 -- What an unfolding gives at each test before its walks, and after them. Assumes nothing.
 use mathlib.Core.Path.{_≡_, refl, sym, ap, _∙_}
-use mathlib.Core.Bool.{Bool, true, false, _&&_, not}
+use mathlib.Core.Bool.{Bool, true, false, cond, _&&_, _||_, not}
 use mathlib.Core.List.{List, []}
-use Prim.Native.Nat.{ℕ, zero, suc, _*_, _≤_, _<_}
+use Prim.Native.Nat.{ℕ, zero, suc, _*_}
+use lib.Dec.{eqb, leb, ltb}
 use lib.ListN.{length}
-use lib.Dec.{ltb, leb}
-use borrow.Author.Tests.{lt-ltb, le-ltb, eq-eqb, ne-eqb}
-use Rattle.maps.specs.Verdict.{Verdict, accepted, refused, when, _then_, scan}
+use borrow.Author.Tests.{eqb-true}
+use Rattle.maps.specs.Verdict.{Verdict, accepted, refused, when, ifAccepted, _then_, scan}
 use Rattle.maps.specs.Sizes.{number1, number2, number3, sizes, number4, number11, hasLength}
-use Rattle.maps.specs.Table.{each}
+use Rattle.maps.specs.Table.{each, listed, absent}
 use Rattle.maps.specs.Folded.{refusedMarks}
 use Rattle.maps.specs.MarksBack.{atMarks8}
-use Rattle.maps.specs.Unfold.{unfoldLent, unfoldTotal, unfoldLeaves}
+use Rattle.maps.specs.Unfold.{atWalk, unfoldLent, unfoldTotal, unfoldLeaves}
+use Rattle.laws.proofs.Verdicts.{not-refused, then-accepted, then-three, and-both}
+use Rattle.laws.proofs.Sizes.{lent-sized}
 use Rattle.answers.specs.Numbers.{refusalOf}
+use Rattle.answers.specs.Lent.{lentOf, askedOf}
 use Rattle.answers.specs.declared.Refusal.{Refusal}
-use Rattle.answers.proofs.Refusals.{refusal-refuses, refused-then}
-use Rattle.reading.specs.Readings.{sizesLent}
-use Rattle.reading.specs.Totals.{walksLent, walksTotal, walksLeave}
-use Rattle.reading.proofs.Questions.{then-assoc}
-use Rattle.reading.specs.Filling.{spoils}
+use Rattle.answers.proofs.Refusals.{refusal-refuses, refused-then, refused-first, refused-second}
+use Rattle.questions.specs.Lent.{Lent}
+use Rattle.questions.proofs.Questions.{pyramidFits, asked-lent}
+use Rattle.reading.specs.declared.filling.Stop.{Stop}
+use Rattle.reading.specs.declared.filling.Stop.the-variants.{Nowhere, Long, Strays, NoPass}
+use Rattle.reading.specs.declared.Total.{Total}
+use Rattle.reading.specs.declared.Total.the-variants.{Counted, Refused}
+use Rattle.reading.specs.declared.filling.Walks.{Walks}
+use Rattle.reading.specs.Answers.{checkOf, totalOf}
+use Rattle.reading.specs.Walks.{stopOf, walksVerdict, Leaves}
 
--- refusals that leave the table as it was
+-- 5, 14 and 15: after these the table is 65,535 throughout
+abbrev spoils : Verdict → Bool
+spoils accepted = false
+spoils (refused number level involution dart) = eqb number 5 || (eqb number 14 || eqb number 15)
+
+-- other tests leave it as it was
 then-keeps : (u v : Verdict) → spoils u ≡ false → spoils v ≡ false → spoils (u then v) ≡ false
 then-keeps accepted v p q = q
 then-keeps (refused k l i d) v p q = p
@@ -34,93 +47,90 @@ unfolding scan
 scan-keeps zero v p = refl
 scan-keeps (suc m) v p = then-keeps (scan m v) (v m) (scan-keeps m v p) (p m)
 
-number4-more : (r s t u : Bool) → number4 (r && (s && t)) then number4 u ≡ number4 (r && (s && (t && u)))
-unfolding number4
-number4-more false s t u = refl
-number4-more true false t u = refl
-number4-more true true false u = refl
-number4-more true true true u = refl
+sizes-keep : (n N h : ℕ) → spoils (sizes n N h) ≡ false
+unfolding sizes number1 number2 number3
+sizes-keep n N h =
+    then-keeps (number1 n) (number2 N then number3 h) (when-keeps (not (leb 1 n && leb n 4)) 1 0 0 0 refl)
+    (then-keeps (number2 N) (number3 h) (when-keeps (not (leb 1 N && leb N 4096)) 2 0 0 0 refl) (when-keeps (ltb 32 h) 3 0 0 0 refl))
+
+asked-keeps : (n N h : ℕ) (fit : Bool) (l : ℕ) → spoils (askedOf n N h fit l 0 0) ≡ false
+unfolding number4 number11
+asked-keeps n N h fit l =
+    then-keeps (lentOf n N h fit) (number11 h l 0 0) (then-keeps (sizes n N h) (number4 fit) (sizes-keep n N h) (when-keeps (not fit) 4 0 0 0 refl)) (when-keeps (ltb h l) 11 l 0 0 refl)
+
+-- a walk's refusal spoils it
+stop-spoils : (l : ℕ) (s : Stop) (r : Refusal) → refusalOf r ≡ stopOf l s → spoils (refusalOf r) ≡ true
+stop-spoils l Nowhere r e = absurd (not-refused (sym (refusal-refuses r .is) ∙ e))
+stop-spoils l (Long i d) r e = ap spoils e
+stop-spoils l (Strays i d) r e = ap spoils e
+stop-spoils l (NoPass i d) r e = ap spoils e
+
+and-four : (r s t u : Bool) → (r && (s && (t && u))) ≡ ((r && (s && t)) && u)
+and-four true true t u = refl
+and-four true false t u = refl
+and-four false s t u = refl
 
 module _ (n N h : ℕ) (rows lambda delta : List ℕ) (l : ℕ) (table : List ℕ) where
   abbrev answer : Verdict
   answer = unfoldLent n N h rows lambda delta l table
 
-  abbrev lent : Verdict
-  lent = sizesLent n N h rows lambda delta
+  -- the tests in their order: sizes, lengths and level, then marks, then walks
+  abbrev pub fits : Bool
+  fits = pyramidFits n N rows lambda delta && hasLength table (suc n * N)
 
-  abbrev exact : Verdict
-  exact = number4 (hasLength table (suc n * N))
+  abbrev first : Verdict
+  first = askedOf n N h fits l 0 0
 
   abbrev marks : Verdict
   marks = scan N (atMarks8 n N h lambda delta l [])
 
-  abbrev marks-and-walks : Verdict
-  marks-and-walks = marks then walksLent n N h rows lambda delta l table
+  abbrev walks : Verdict
+  walks = walksVerdict n N h rows lambda delta l
 
-  unfold-is : lent then (exact then (number11 h l 0 0 then marks-and-walks)) ≡ answer
-  unfolding sizesLent walksLent unfoldLent atMarks8
+  unfold-is : answer ≡ first then (marks then walks)
+  unfolding unfoldLent atMarks8 atWalk
   unfold-is =
-      let r = hasLength rows (suc n * N) in
-      let s = hasLength lambda N in
-      let t = hasLength delta N in
-      let u = hasLength table (suc n * N) in
-      let v = number11 h l 0 0 then marks-and-walks in
-      then-assoc (sizes n N h) (number4 (r && (s && t))) (exact then v)
-      ∙ ap (λ (w : Verdict). sizes n N h then w) (sym (then-assoc (number4 (r && (s && t))) exact v) ∙ ap (λ (w : Verdict). w then v) (number4-more r s t u))
+      ap (λ (fit : Bool). sizes n N h then (number4 fit then (number11 h l 0 0 then (marks then walks)))) (and-four (hasLength rows (suc n * N)) (hasLength lambda N) (hasLength delta N) (hasLength table (suc n * N)))
+      ∙ then-three (sizes n N h) (number4 fits) (number11 h l 0 0) (marks then walks)
 
-  -- sizes, lengths and marks leave the table as it was
-  sizes-keep : spoils lent ≡ false
-  unfolding sizesLent sizes number1 number2 number3 number4
-  sizes-keep = then-keeps (sizes n N h) (number4 (hasLength rows (suc n * N) && (hasLength lambda N && hasLength delta N))) (then-keeps (number1 n) (number2 N then number3 h)
-      (when-keeps (not (leb 1 n && leb n 4)) 1 0 0 0 refl) (then-keeps (number2 N) (number3 h) (when-keeps (not (leb 1 N && leb N 4096)) 2 0 0 0 refl) (when-keeps (ltb 32 h) 3 0 0 0 refl)))
-      (when-keeps (not (hasLength rows (suc n * N) && (hasLength lambda N && hasLength delta N))) 4 0 0 0 refl)
+  -- what accepted sizes, lengths and level tell
+  pub unfold-lent : first ≡ accepted → Lent n N h rows lambda delta l × (length table ≡ suc n * N)
+  unfold-lent e =
+      let f = then-accepted (lentOf n N h fits) (number11 h l 0 0) e in
+      let b = and-both (pyramidFits n N rows lambda delta) (hasLength table (suc n * N)) (lent-sized n N h fits (f .0) .1) in
+      (asked-lent n N h rows lambda delta l 0 0 (rw (b .0) (rw (b .0, b .1) at e)), eqb-true (length table) (suc n * N) (b .1))
 
-  marks-keep : spoils marks ≡ false
-  unfolding atMarks8
-  marks-keep = scan-keeps N (atMarks8 n N h lambda delta l []) (λ x. when-keeps (refusedMarks n h (each lambda x) (each delta x)) 8 l 0 x refl)
+  -- the contract's three clauses
+  abbrev Gives : Verdict → ℕ → List ℕ → Type 0
+  Gives v total after = (v ≡ answer) × ((total ≡ unfoldTotal n N h rows lambda delta l table) × (after ≡ unfoldLeaves n N h rows lambda delta l table))
 
-  -- what the contract asks after a refusal that leaves the table as it was
-  abbrev Kept : Verdict → Type 0
-  Kept v = (v ≡ answer) × ((0 ≡ unfoldTotal n N h rows lambda delta l table) × (table ≡ unfoldLeaves n N h rows lambda delta l table))
-
-  kept : (k m i d : ℕ) → spoils (refused k m i d) ≡ false → refused k m i d ≡ answer → Kept (refused k m i d)
+  refuses : (r : Refusal) {after : List ℕ} → refusalOf r ≡ answer → after ≡ cond (spoils (refusalOf r)) (listed (λ x. absent) (length table)) table → Gives (refusalOf r) 0 after
   unfolding unfoldTotal unfoldLeaves
-  kept k m i d p e = let f : answer ≡ refused k m i d = sym e in (e, (rw f, rw (f, p)))
+  refuses r e f = let x = refusal-refuses r in (e, (rw (← e, x .is), f ∙ rw (← e, x .is)))
 
-  kept-refusal : (r : Refusal) → spoils (refusalOf r) ≡ false → refusalOf r ≡ answer → Kept (refusalOf r)
-  kept-refusal r p e =
-      let x = refusal-refuses r in
-      rw (x .is) (kept (x .number) (x .level) (x .involution) (x .dart) (rw (x .is) at p) (rw (x .is) at e))
+  pub unfold-first : (r : Refusal) → refusalOf r ≡ first → Gives (refusalOf r) 0 table
+  unfold-first r e = refuses r (refused-first answer first (marks then walks) unfold-is r e) (rw (ap spoils e ∙ asked-keeps n N h fits l))
 
-  pub unfold-lent : (r : Refusal) → refusalOf r ≡ lent → Kept (refusalOf r)
-  unfold-lent r e = kept-refusal r (ap spoils e ∙ sizes-keep) (refused-then r lent (exact then (number11 h l 0 0 then marks-and-walks)) e ∙ unfold-is)
+  module _ (ok : accepted ≡ first) where
+    pub unfold-marks : (r : Refusal) → refusalOf r ≡ marks → Gives (refusalOf r) 0 table
+    unfolding atMarks8
+    unfold-marks r e =
+        refuses r (refused-second answer first (marks then walks) unfold-is r ok (refused-then r marks walks e))
+        (rw (ap spoils e ∙ scan-keeps N (atMarks8 n N h lambda delta l []) (λ x. when-keeps (refusedMarks n h (each lambda x) (each delta x)) 8 l 0 x refl)))
 
-  module _ (ok : lent ≡ accepted) where
-    after-lent : exact then (number11 h l 0 0 then marks-and-walks) ≡ answer
-    after-lent = (rw ok) ∙ unfold-is
+    -- after accepted marks the walks decide
+    module _ (fine : accepted ≡ marks) {w : Walks} {after : List ℕ} (left : Leaves n N h rows lambda delta l w after) where
+      decides : answer ≡ walks
+      decides = unfold-is ∙ (rw (← ok, ← fine))
 
-    pub unfold-length : (length table ≡ suc n * N → ⊥) → Kept (refused 4 0 0 0)
-    unfolding number4
-    unfold-length x = kept 4 0 0 0 refl (rw (ne-eqb (length table) (suc n * N) x) at after-lent)
+      pub unfold-counted : {t : Total} {total : ℕ} → t ≡ Counted total → (checkOf t ≡ stopOf l (w .stop)) × (totalOf t ≡ ifAccepted (stopOf l (w .stop)) (w .total) 0) → Gives accepted total after
+      unfolding unfoldTotal unfoldLeaves atWalk
+      unfold-counted {t} {total} e q =
+          let f : (accepted ≡ stopOf l (w .stop)) × (total ≡ ifAccepted (stopOf l (w .stop)) (w .total) 0) = rw e at q in
+          let all : walks ≡ accepted = sym (f .0 ∙ left .first) in
+          (rw (decides, all), (rw (decides, all) ((rw (← (f .0)) at (f .1)) ∙ left .total all), rw (decides, all) (left .level all)))
 
-    module _ (fits : length table ≡ suc n * N) where
-      pub unfold-level : h < l → Kept (refused 11 l 0 0)
-      unfolding number4 number11
-      unfold-level x = kept 11 l 0 0 refl (rw (eq-eqb (length table) (suc n * N) fits, lt-ltb h l x) at after-lent)
-
-      module _ (low : l ≤ h) where
-        after-level : marks-and-walks ≡ answer
-        unfolding number4 number11
-        after-level = rw (eq-eqb (length table) (suc n * N) fits, le-ltb h l low) at after-lent
-
-        pub unfold-marks : (r : Refusal) → refusalOf r ≡ marks → Kept (refusalOf r)
-        unfold-marks r e = kept-refusal r (ap spoils e ∙ marks-keep) (refused-then r marks (walksLent n N h rows lambda delta l table) e ∙ after-level)
-
-        -- after accepted marks the walks decide
-        pub unfold-walks : {v : Verdict} {total : ℕ} {after : List ℕ} → marks ≡ accepted
-            → (v ≡ walksLent n N h rows lambda delta l table) × ((total ≡ walksTotal n N h rows lambda delta l table) × (after ≡ walksLeave n N h rows lambda delta l table))
-            → (v ≡ answer) × ((total ≡ unfoldTotal n N h rows lambda delta l table) × (after ≡ unfoldLeaves n N h rows lambda delta l table))
-        unfolding walksTotal walksLeave unfoldTotal unfoldLeaves
-        unfold-walks e w =
-            let f : answer ≡ walksLent n N h rows lambda delta l table = sym after-level ∙ (rw e) in
-            (w .0 ∙ sym f, (w .1 .0 ∙ (rw f), w .1 .1 ∙ (rw f)))
+      pub unfold-refused : {t : Total} {r : Refusal} → t ≡ Refused r → (checkOf t ≡ stopOf l (w .stop)) × (totalOf t ≡ ifAccepted (stopOf l (w .stop)) (w .total) 0) → length table ≡ suc n * N → Gives (refusalOf r) 0 (listed (λ x. absent) (length after))
+      unfold-refused {t} {r} e q size =
+          let f : refusalOf r ≡ stopOf l (w .stop) = rw e at (q .0) in
+          refuses r (f ∙ left .first ∙ sym decides) (rw (stop-spoils l (w .stop) r f) (ap (listed (λ x. absent)) (left .size ∙ sym size)))

@@ -1,4 +1,2 @@
 pub mod Answers
-pub mod Readings
-pub mod Totals
-pub mod Filling
+pub mod Walks

@@ -1,26 +1,23 @@
 // Read one neighbour by the direct walk, and unfold a whole level. Assumes nothing.
+mod filling; // filling.rt: the walks of a level into a table
+
 use answers::Check;
 use answers::Dim;
 use answers::Level;
+use answers::Mark;
+use answers::Question;
 use answers::Refusal;
+use questions::Neighbour;
+use questions::Reading;
 ghost use mathlib.Core.Path.{_≡_};
-ghost use Prim.Native.Nat.{suc, _*_, _≤_, _<_};
-ghost use lib.ListN.{length};
-ghost use Rattle.maps.specs.Read.{question as questionOf, readLent, readingOf};
-ghost use Rattle.maps.specs.Table.{entry, each, listed, absent};
+ghost use Prim.Native.Nat.{_≤_, _<_};
+ghost use Rattle.maps.specs.Read.{readLent, readingOf};
+ghost use Rattle.maps.specs.Table.{entry, each};
 ghost use Rattle.maps.specs.Walk.{walk as walkOf};
 ghost use Rattle.maps.specs.Unfold.{unfoldLent, unfoldTotal, unfoldLeaves};
-ghost use Rattle.answers.specs.Numbers.{verdictOf};
-ghost use Rattle.reading.specs.Readings.{sizesLent, Lent};
-ghost use Rattle.reading.specs.Answers.{valueOf, checkOf, totalOf};
-ghost use Rattle.reading.specs.Totals.{walksLent, walksTotal, walksLeave};
-ghost use Rattle.reading.specs.Filling.{Allowed, Meets, restOf, RowsTo};
-
-// A neighbour with the number of base entries read, or a refusal.
-pub enum Reading {
-    Found(u16, u32),
-    Refused(Refusal),
-}
+ghost use Rattle.questions.specs.Answers.{valueOf};
+ghost use Rattle.questions.specs.Lent.{Lent};
+ghost use Rattle.reading.specs.Answers.{checkOf, totalOf};
 
 // The count of all walks of a level, or a refusal.
 pub enum Total {
@@ -28,64 +25,7 @@ pub enum Total {
     Refused(Refusal),
 }
 
-// Numbers 1 to 4 of base rows and marks.
-fn lent(n: Dim, darts: u16, h: Level, rows: &[u16], lambda: &[u8], delta: &[u8]) -> Check
-    ensures { λ r. ⌜ verdictOf r ≡ sizesLent (n .0) darts (h .0) (now (rows .entry)) (now (lambda .entry)) (now (delta .entry)) ⌝ }
-{
-    if let Check::Refused(r) = answers::sizes(n, darts, h) {
-        return Check::Refused(r);
-    }
-    let width = darts as usize;
-    if rows.len() != (n.0 as usize + 1) * width {
-        return Check::Refused(Refusal::Length);
-    }
-    if lambda.len() != width {
-        return Check::Refused(Refusal::Length);
-    }
-    if delta.len() != width {
-        return Check::Refused(Refusal::Length);
-    }
-    Check::Accepted
-}
-
-// What is tested before a walk: 1, 2, 3, 4, 11, 13, then 12, 8 and 12 of the starting dart.
-pub fn question(
-    n: Dim,
-    darts: u16,
-    h: Level,
-    rows: &[u16],
-    lambda: &[u8],
-    delta: &[u8],
-    level: Level,
-    involution: Dim,
-    dart: u16,
-) -> Check
-    ensures { λ r. ⌜ verdictOf r ≡ questionOf (n .0) darts (h .0) (now (rows .entry)) (now (lambda .entry)) (now (delta .entry)) (level .0) (involution .0) dart ⌝ }
-{
-    if let Check::Refused(r) = lent(n, darts, h, rows, lambda, delta) {
-        return Check::Refused(r);
-    }
-    if h.0 < level.0 {
-        return Check::Refused(Refusal::NoLevel(level, involution, dart));
-    }
-    if n.0 < involution.0 {
-        return Check::Refused(Refusal::NoInvolution(level, involution, dart));
-    }
-    if darts <= dart {
-        return Check::Refused(Refusal::NoDart(level, involution, dart));
-    }
-    let at = dart as usize;
-    let l = lambda[at];
-    if answers::marks_refused(n, h, Level(l), Dim(delta[at])) {
-        return Check::Refused(Refusal::Marks(level, involution, dart));
-    }
-    if l < level.0 {
-        return Check::Refused(Refusal::NoDart(level, involution, dart));
-    }
-    Check::Accepted
-}
-
-// The direct walk of a dart: at each read 15, 5, 8, then the dart met is on the level, or 14, or it is passed.
+// The direct walk of a dart. Each entry read is tested for 5, the dart met for 8. It is on the level, or refused 14, or 15 where no read is left, or passed.
 fn walk(
     n: Dim,
     darts: u16,
@@ -93,48 +33,43 @@ fn walk(
     rows: &[u16],
     lambda: &[u8],
     delta: &[u8],
-    level: Level,
-    involution: Dim,
-    dart: u16,
+    asked: Question,
 ) -> Reading
-    requires { ⌜ Lent (n .0) darts (h .0) (now rows) (now lambda) (now delta) (level .0) × (involution .0 ≤ n .0) × (dart < darts) ⌝ }
-    ensures { λ r. ⌜ valueOf r ≡ readingOf (level .0) (walkOf (entry darts (now (rows .entry))) (n .0) darts (h .0) (each (now (lambda .entry))) (each (now (delta .entry))) (level .0) (involution .0) dart) ⌝ }
+    requires { ⌜ Lent (n .0) darts (h .0) (now rows) (now lambda) (now delta) (asked .level .0) × (asked .involution .0 ≤ n .0) × (asked .dart < darts) ⌝ }
+    ensures { λ r. ⌜ valueOf r ≡ readingOf (asked .level .0) (walkOf (entry darts (now (rows .entry))) (n .0) darts (h .0) (each (now (lambda .entry))) (each (now (delta .entry))) (asked .level .0) (asked .involution .0) (asked .dart)) ⌝ }
 {
-    let width = darts as usize;
-    let most = 1 + 2 * width;
-    let mut t = involution.0;
-    let mut row = t as usize * width;
-    let mut from = dart as usize;
-    let mut left = most;
-    while 0 < left {
-        let e = rows[row + from] as usize;
-        if width <= e {
-            return Reading::Refused(Refusal::Strays(level, Dim(t), from as u16));
+    let most = 1 + 2 * darts as u32;
+    let level = asked.level;
+    let involution = asked.involution;
+    let mut t = involution;
+    let mut from = asked.dart;
+    let mut count: u32 = 0;
+    loop {
+        let e = answers::at(darts, rows, t, from);
+        if darts <= e {
+            return Reading::Refused(Refusal::Strays(level, t, from));
         }
-        let l = lambda[e];
-        let m = delta[e];
-        left -= 1;
-        if level.0 <= l {
-            if answers::marks_refused(n, h, Level(l), Dim(m)) {
-                return Reading::Refused(Refusal::Marks(level, Dim(t), e as u16));
+        count += 1;
+        let own = Level(lambda[e as usize]);
+        let mark = Mark(delta[e as usize]);
+        if level.0 <= own.0 {
+            if answers::marks_refused(n, h, own, mark) {
+                return Reading::Refused(Refusal::Marks(level, t, e));
             }
-            return Reading::Found(e as u16, (most - left) as u32);
+            return Reading::Found(Neighbour { dart: e, count });
         }
-        if n.0 <= m {
-            return Reading::Refused(Refusal::Marks(level, Dim(t), e as u16));
+        if !answers::is_mark(n, mark) {
+            return Reading::Refused(Refusal::Marks(level, t, e));
         }
-        if m == t {
-            t += 1;
-            row += width;
-        } else if m + 1 == t {
-            t -= 1;
-            row -= width;
-        } else {
-            return Reading::Refused(Refusal::NoPass(level, Dim(t), e as u16));
+        if !answers::can_pass(mark, t) {
+            return Reading::Refused(Refusal::NoPass(level, t, e));
         }
+        if count == most {
+            return Reading::Refused(Refusal::TooLong(level, involution, asked.dart));
+        }
+        t = answers::across(mark, t);
         from = e;
     }
-    Reading::Refused(Refusal::TooLong(level, involution, dart))
 }
 
 // The neighbour of a dart at a level, on any tables.
@@ -151,155 +86,18 @@ pub fn read(
 ) -> Reading
     ensures { λ r. ⌜ valueOf r ≡ readLent (n .0) darts (h .0) (now (rows .entry)) (now (lambda .entry)) (now (delta .entry)) (level .0) (involution .0) dart ⌝ }
 {
-    match question(n, darts, h, rows, lambda, delta, level, involution, dart) {
+    let asked = Question {
+        level,
+        involution,
+        dart,
+    };
+    match questions::question(n, darts, h, rows, lambda, delta, asked) {
         Check::Refused(r) => Reading::Refused(r),
-        Check::Accepted => walk(n, darts, h, rows, lambda, delta, level, involution, dart),
+        Check::Accepted => walk(n, darts, h, rows, lambda, delta, asked),
     }
 }
 
-// How a walk that met a dart not on the level goes on: it ends at a dart after so many reads more, or is refused 15, 5 or 14, with row and dart.
-enum Rest {
-    Ended(usize, usize),
-    Long,
-    Strays(Dim, u16),
-    NoPass(Dim, u16),
-}
-
-// The walk of a dart goes on from the dart met by its first read. All marks are allowed, so 8 is not tested again.
-fn onward(
-    n: Dim,
-    width: usize,
-    h: Level,
-    rows: &[u16],
-    lambda: &[u8],
-    delta: &[u8],
-    level: Level,
-    involution: Dim,
-    dart: usize,
-    met: usize,
-) -> Rest
-    requires { ⌜ Allowed (n .0) width (h .0) (now rows) (now lambda) (now delta) (level .0) × Meets width (now rows) (now lambda) (level .0) (n .0) (involution .0) dart met ⌝ }
-    ensures { λ r. ⌜ restOf (level .0) (involution .0) dart r ≡ readingOf (level .0) (walkOf (entry width (now (rows .entry))) (n .0) width (h .0) (each (now (lambda .entry))) (each (now (delta .entry))) (level .0) (involution .0) dart) ⌝ }
-{
-    let most = 2 * width;
-    let mut t = involution.0;
-    let mut row = t as usize * width;
-    let mut from = met;
-    let mut left = most;
-    loop {
-        let mark = delta[from];
-        if mark == t {
-            t = mark + 1;
-            row += width;
-        } else if mark + 1 == t {
-            t = mark;
-            row -= width;
-        } else {
-            return Rest::NoPass(Dim(t), from as u16);
-        }
-        if left == 0 {
-            return Rest::Long;
-        }
-        left -= 1;
-        let e = rows[row + from] as usize;
-        if width <= e {
-            return Rest::Strays(Dim(t), from as u16);
-        }
-        if level.0 <= lambda[e] {
-            return Rest::Ended(e, most - left);
-        }
-        from = e;
-    }
-}
-
-// 65,535 throughout.
-fn clear(table: &mut [u16])
-    ensures { λ _. ⌜ now (table .exit) ≡ listed (λ _. absent) (length (now (table .entry))) ⌝ }
-{
-    for k in 0..table.len() {
-        table[k] = 65535;
-    }
-}
-
-// The walks of rows 0 to last, each by dart, into the table, with their count: the rows before first; left at the first refusal.
-// It calls itself, so that its loop stays a function of its own and has the registers to itself.
-fn rows_to(
-    n: Dim,
-    width: usize,
-    h: Level,
-    rows: &[u16],
-    lambda: &[u8],
-    delta: &[u8],
-    level: Level,
-    last: Dim,
-    table: &mut [u16],
-) -> Total
-    requires { ⌜ Allowed (n .0) width (h .0) (now rows) (now lambda) (now delta) (level .0) × (length (now table) ≡ suc (n .0) * width) × (last .0 ≤ n .0) ⌝ }
-    ensures { λ r. ⌜ RowsTo (n .0) width (h .0) (now (rows .entry)) (now (lambda .entry)) (now (delta .entry)) (level .0) (last .0) r (now (table .exit)) ⌝ }
-{
-    let i = last.0;
-    let mut total: u32 = 0;
-    if 0 < i {
-        match rows_to(n, width, h, rows, lambda, delta, level, Dim(i - 1), table) {
-            Total::Counted(count) => total = count,
-            Total::Refused(r) => return Total::Refused(r),
-        }
-    }
-    let start = i as usize * width;
-    for d in 0..width {
-        let place = start + d;
-        if lambda[d] < level.0 {
-            table[place] = 65535;
-        } else {
-            let e = rows[place] as usize;
-            if width <= e {
-                return Total::Refused(Refusal::Strays(level, last, d as u16));
-            }
-            total += 1;
-            if level.0 <= lambda[e] {
-                table[place] = e as u16;
-            } else {
-                match onward(n, width, h, rows, lambda, delta, level, last, d, e) {
-                    Rest::Ended(f, more) => {
-                        table[place] = f as u16;
-                        total += more as u32;
-                    },
-                    Rest::Long => return Total::Refused(Refusal::TooLong(level, last, d as u16)),
-                    Rest::Strays(t, b) => return Total::Refused(Refusal::Strays(level, t, b)),
-                    Rest::NoPass(t, b) => return Total::Refused(Refusal::NoPass(level, t, b)),
-                }
-            }
-        }
-    }
-    Total::Counted(total)
-}
-
-// The walks of a level, by involution, then dart, into the table; after a refusal the table is 65,535 throughout.
-fn walks(
-    n: Dim,
-    darts: u16,
-    h: Level,
-    rows: &[u16],
-    lambda: &[u8],
-    delta: &[u8],
-    level: Level,
-    table: &mut [u16],
-) -> Total
-    requires { ⌜ Allowed (n .0) darts (h .0) (now rows) (now lambda) (now delta) (level .0) × (length (now table) ≡ suc (n .0) * darts) ⌝ }
-    ensures { λ r. ⌜ checkOf r ≡ walksLent (n .0) darts (h .0) (now (rows .entry)) (now (lambda .entry)) (now (delta .entry)) (level .0) (now (table .entry)) ⌝ }
-    ensures { λ r. ⌜ totalOf r ≡ walksTotal (n .0) darts (h .0) (now (rows .entry)) (now (lambda .entry)) (now (delta .entry)) (level .0) (now (table .entry)) ⌝ }
-    ensures { λ _. ⌜ now (table .exit) ≡ walksLeave (n .0) darts (h .0) (now (rows .entry)) (now (lambda .entry)) (now (delta .entry)) (level .0) (now (table .entry)) ⌝ }
-{
-    match rows_to(n, darts as usize, h, rows, lambda, delta, level, n, table) {
-        Total::Counted(total) => Total::Counted(total),
-        Total::Refused(r) => {
-            clear(table);
-            Total::Refused(r)
-        },
-    }
-}
-
-// A whole level into the lent table by direct walks, with the total count.
+// A whole level into the lent table by direct walks, with the total count; after 5, 14 and 15 the table is 65,535 throughout.
 pub fn unfold(
     n: Dim,
     darts: u16,
@@ -314,17 +112,25 @@ pub fn unfold(
     ensures { λ r. ⌜ totalOf r ≡ unfoldTotal (n .0) darts (h .0) (now (rows .entry)) (now (lambda .entry)) (now (delta .entry)) (level .0) (now (table .entry)) ⌝ }
     ensures { λ _. ⌜ now (table .exit) ≡ unfoldLeaves (n .0) darts (h .0) (now (rows .entry)) (now (lambda .entry)) (now (delta .entry)) (level .0) (now (table .entry)) ⌝ }
 {
-    if let Check::Refused(r) = lent(n, darts, h, rows, lambda, delta) {
+    let lent = answers::pyramid_fits(n, darts, rows.len(), lambda.len(), delta.len());
+    let fit = answers::both(lent, answers::rows_fit(n, darts, table.len()));
+    let asked = Question {
+        level,
+        involution: Dim(0),
+        dart: 0,
+    };
+    if let Check::Refused(r) = answers::asked(n, darts, h, fit, asked) {
         return Total::Refused(r);
-    }
-    if table.len() != rows.len() {
-        return Total::Refused(Refusal::Length);
-    }
-    if h.0 < level.0 {
-        return Total::Refused(Refusal::NoLevel(level, Dim(0), 0));
     }
     if let Check::Refused(r) = answers::marks_refusal(n, darts, h, lambda, delta, level) {
         return Total::Refused(r);
     }
-    walks(n, darts, h, rows, lambda, delta, level, table)
+    let walks = filling::fill(n, darts, h, rows, lambda, delta, level, table);
+    match filling::answer(level, walks) {
+        Total::Counted(total) => Total::Counted(total),
+        Total::Refused(r) => {
+            filling::clear(table);
+            Total::Refused(r)
+        },
+    }
 }

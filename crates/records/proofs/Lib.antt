@@ -1,7 +1,5 @@
-mod Settled
+mod Tags
 mod Laid
-mod Parted
-mod Tagged
-mod Placed
+mod Reach
 mod Whole
 pub mod RoundTrip

@@ -1,4 +1,4 @@
--- A record as it is written, with rows of two bytes an entry, and what taking it gives back. Assumes nothing.
+-- What taking a record gives back, of one that is written. Assumes nothing.
 use mathlib.Core.Path.{_≡_, refl, sym, ap, _∙_}
 use mathlib.Core.Bool.{Bool, true, false, _&&_}
 use mathlib.Core.List.{List, [], _∷_, _++_, append-nil, append-assoc}
@@ -10,39 +10,16 @@ use lib.Seq.{getD-append-add, getD-take, getD-drop}
 use lib.Arith.{digits-div, digits-mod}
 use lib.Dec.{eqb, leb, ltb}
 use borrow.Author.Tests.{eqb-true, eqb-false, ltb-true, ltb-false, le-leb, lt-leb, le-ltb, eq-eqb}
-use Rattle.maps.specs.Verdict.{accepted}
+use Rattle.maps.specs.Verdict.{accepted, _then_}
 use Rattle.maps.specs.Sizes.{sizes, number1, number2, number3, number4}
 use Rattle.maps.specs.Record.{field, recordDimension, recordHeight, recordDarts, takeLent, takeRows, takeLambda, takeDelta}
-use Rattle.facts.proofs.Verdicts.{scan-all}
-use Rattle.facts.proofs.Tables.{place}
-use Rattle.facts.proofs.Sizes.{Sized}
-use Rattle.records.specs.Parts.{headerOf, rowField, fieldsOf, roomOf, restOf, byteFrom, tableEntry}
-use Rattle.records.proofs.Laid.{laid-all}
-use Rattle.records.proofs.Whole.{Told, lent-rest, rest-accepted}
-
--- one-byte tag, two-byte length low byte first, body
-unfoldable pub fieldWritten : ℕ → List ℕ → List ℕ
-fieldWritten tag body = tag ∷ length body % 256 ∷ length body / 256 ∷ body
-
--- each number in two bytes, low byte first
-unfoldable pub inTwoBytes : List ℕ → List ℕ
-inTwoBytes [] = []
-inTwoBytes (x ∷ xs) = x % 256 ∷ x / 256 ∷ inTwoBytes xs
-
--- row i of a table of rows of N
-unfoldable pub rowOf : ℕ → List ℕ → ℕ → List ℕ
-rowOf N rows i = take N (drop (i * N) rows)
-
--- rows 0 to m − 1 as tags 0x10 to 0x14 with 2N bytes
-unfoldable pub rowsWritten : ℕ → List ℕ → ℕ → List ℕ
-rowsWritten N rows zero = []
-rowsWritten N rows (suc m) = rowsWritten N rows m ++ fieldWritten (0x10 + m) (inTwoBytes (rowOf N rows m))
-
--- tag 0x01: n, h, N in two bytes low first; rows 0 to n; 0x30, Λ; 0x31, Δ; end
-unfoldable pub written : ℕ → ℕ → ℕ → List ℕ → List ℕ → List ℕ → List ℕ
-written n h N rows lambda delta =
-    fieldWritten 0x01 (n ∷ h ∷ inTwoBytes (N ∷ []))
-    ++ (rowsWritten N rows (suc n) ++ (fieldWritten 0x30 lambda ++ fieldWritten 0x31 delta))
+use Rattle.laws.proofs.Verdicts.{scan-all}
+use Rattle.laws.proofs.Tables.{place}
+use Rattle.laws.proofs.Sizes.{Sized}
+use Rattle.records.specs.Parts.{rowField, roomOf, restOf, tableEntry}
+use Rattle.records.specs.Written.{fieldWritten, inTwoBytes, rowOf, rowsWritten, written, Below}
+use Rattle.records.proofs.Laid.{laid-whole}
+use Rattle.records.proofs.Whole.{Told, lent-is, all-taken}
 
 length-field : (tag : ℕ) (body : List ℕ) → length (fieldWritten tag body) ≡ 3 + length body
 unfolding fieldWritten
@@ -65,10 +42,6 @@ unfolding inTwoBytes
 high-two [] d = refl
 high-two (x ∷ xs) zero = refl
 high-two (x ∷ xs) (suc d) = let e : 2 * suc d + 1 ≡ suc (suc (2 * d + 1)) = omega arith in rw e (high-two xs d)
-
--- each number of a list is below k; past its end `getD` gives 0
-abbrev pub Below : ℕ → List ℕ → Type 0
-Below k list = (x : ℕ) → getD list x 0 < k
 
 below-append : (k : ℕ) (xs ys : List ℕ) → Below k xs → Below k ys → Below k (xs ++ ys)
 below-append k xs ys f g x = go (ltb x (length xs)) refl
@@ -103,12 +76,18 @@ below-field tag body lt lb f =
     (below-cons 256 (length body % 256) (length body / 256 ∷ body) (omega arith) (below-cons 256 (length body / 256) body (omega arith) f))
 
 -- a list that has a field after what comes before it
-module _ (list before after : List ℕ) (at tag : ℕ) (body : List ℕ) (e : list ≡ before ++ (fieldWritten tag body ++ after)) (l : length before ≡ at) where
-  in-list : (k : ℕ) → getD list (at + k) 0 ≡ getD (fieldWritten tag body ++ after) k 0
-  in-list k = rw (e, ← l) (getD-append-add before (fieldWritten tag body ++ after) k 0)
+record Stands (list : List ℕ) (at tag : ℕ) (body : List ℕ) : Type 0 where
+  before : List ℕ
+  after : List ℕ
+  is : list ≡ before ++ (fieldWritten tag body ++ after)
+  starts : length before ≡ at
 
-  list-length : length list ≡ at + (3 + length body) + length after
-  list-length = omega (arith, ap length e, length-append before (fieldWritten tag body ++ after), length-append (fieldWritten tag body) after, length-field tag body)
+module _ {list : List ℕ} {at tag : ℕ} {body : List ℕ} (s : Stands list at tag body) where
+  in-list : (k : ℕ) → getD list (at + k) 0 ≡ getD (fieldWritten tag body ++ s .after) k 0
+  in-list k = rw (s .is, ← (s .starts)) (getD-append-add (s .before) (fieldWritten tag body ++ s .after) k 0)
+
+  list-length : length list ≡ at + (3 + length body) + length (s .after)
+  list-length = omega (arith, ap length (s .is), s .starts, length-append (s .before) (fieldWritten tag body ++ s .after), length-append (fieldWritten tag body) (s .after), length-field tag body)
 
   field-tag : getD list at 0 ≡ tag
   unfolding fieldWritten
@@ -116,7 +95,7 @@ module _ (list before after : List ℕ) (at tag : ℕ) (body : List ℕ) (e : li
 
   field-body : (k : ℕ) → k < length body → getD list (at + 3 + k) 0 ≡ getD body k 0
   unfolding fieldWritten
-  field-body k f = let z : at + 3 + k ≡ at + suc (suc (suc k)) = omega arith in rw z (in-list (suc (suc (suc k))) ∙ List·getD-append body after 0 k f)
+  field-body k f = let z : at + 3 + k ≡ at + suc (suc (suc k)) = omega arith in rw z (in-list (suc (suc (suc k))) ∙ List·getD-append body (s .after) 0 k f)
 
   field-accepted : field list at tag (length body) ≡ accepted
   unfolding field fieldWritten
@@ -193,36 +172,42 @@ module _ (n h N : ℕ) (rows lambda delta : List ℕ) (s : Sized n N h) (rows-le
   marks = fieldWritten 0x30 lambda ++ fieldWritten 0x31 delta
 
   -- where each field stands
-  after-row : (i : ℕ) → i ≤ n → Apart N rows (suc n) i
-  after-row i l = row-apart N rows (suc n) i (omega arith)
-
-  row-stands : (i : ℕ) (l : i ≤ n) → list ≡ (header ++ rowsWritten N rows i) ++ (fieldWritten (0x10 + i) (inTwoBytes (rowOf N rows i)) ++ (after-row i l .after ++ marks))
+  row-stands : (i : ℕ) → i ≤ n → Stands list (7 + i * (3 + 2 * N)) (0x10 + i) (inTwoBytes (rowOf N rows i))
   unfolding written
   row-stands i l =
-      let a = after-row i l in
+      let a = row-apart N rows (suc n) i (omega arith) in
       let one = fieldWritten (0x10 + i) (inTwoBytes (rowOf N rows i)) in
-      ap (λ (x : List ℕ). header ++ (x ++ marks)) (a .is)
-      ∙ ap (λ (x : List ℕ). header ++ x) (append-assoc (rowsWritten N rows i) (one ++ a .after) marks ∙ ap (λ (x : List ℕ). rowsWritten N rows i ++ x) (append-assoc one (a .after) marks))
-      ∙ sym (append-assoc header (rowsWritten N rows i) (one ++ (a .after ++ marks)))
-
-  lambda-stands : list ≡ (header ++ rowsWritten N rows (suc n)) ++ marks
-  unfolding written
-  lambda-stands = sym (append-assoc header (rowsWritten N rows (suc n)) marks)
-
-  delta-stands : list ≡ ((header ++ rowsWritten N rows (suc n)) ++ fieldWritten 0x30 lambda) ++ (fieldWritten 0x31 delta ++ [])
-  delta-stands =
-      lambda-stands
-      ∙ sym (append-assoc (header ++ rowsWritten N rows (suc n)) (fieldWritten 0x30 lambda) (fieldWritten 0x31 delta))
-      ∙ ap (λ (x : List ℕ). ((header ++ rowsWritten N rows (suc n)) ++ fieldWritten 0x30 lambda) ++ x) (sym (append-nil (fieldWritten 0x31 delta)))
+      record {
+        before = header ++ rowsWritten N rows i;
+        after = a .after ++ marks;
+        is =
+            ap (λ (x : List ℕ). header ++ (x ++ marks)) (a .is)
+            ∙ ap (λ (x : List ℕ). header ++ x) (append-assoc (rowsWritten N rows i) (one ++ a .after) marks ∙ ap (λ (x : List ℕ). rowsWritten N rows i ++ x) (append-assoc one (a .after) marks))
+            ∙ sym (append-assoc header (rowsWritten N rows i) (one ++ (a .after ++ marks)));
+        starts = before-row i (omega arith);
+      }
 
   abbrev lambdaFrom : ℕ
   lambdaFrom = 7 + suc n * (3 + 2 * N)
 
-  before-lambda : length (header ++ rowsWritten N rows (suc n)) ≡ lambdaFrom
-  before-lambda = before-row (suc n) (omega arith)
+  abbrev front : List ℕ
+  front = header ++ rowsWritten N rows (suc n)
 
-  before-delta : length ((header ++ rowsWritten N rows (suc n)) ++ fieldWritten 0x30 lambda) ≡ lambdaFrom + (3 + N)
-  before-delta = omega (arith, length-append (header ++ rowsWritten N rows (suc n)) (fieldWritten 0x30 lambda), before-lambda, length-field 0x30 lambda)
+  lambda-stands : Stands list lambdaFrom 0x30 lambda
+  unfolding written
+  lambda-stands = record { before = front; after = fieldWritten 0x31 delta; is = sym (append-assoc header (rowsWritten N rows (suc n)) marks); starts = before-row (suc n) (omega arith) }
+
+  unfoldable delta-stands : Stands list (lambdaFrom + (3 + N)) 0x31 delta
+  unfolding written
+  delta-stands = record {
+    before = front ++ fieldWritten 0x30 lambda;
+    after = [];
+    is =
+        sym (append-assoc header (rowsWritten N rows (suc n)) marks)
+        ∙ sym (append-assoc front (fieldWritten 0x30 lambda) (fieldWritten 0x31 delta))
+        ∙ ap (λ (x : List ℕ). (front ++ fieldWritten 0x30 lambda) ++ x) (sym (append-nil (fieldWritten 0x31 delta)));
+    starts = omega (arith, length-append front (fieldWritten 0x30 lambda), before-row (suc n) (omega arith), length-field 0x30 lambda);
+  }
 
   header-bytes : Below 256 header
   unfolding inTwoBytes
@@ -241,7 +226,8 @@ module _ (n h N : ℕ) (rows lambda delta : List ℕ) (s : Sized n N h) (rows-le
 
   -- the size of a record
   pub written-length : length (written n h N rows lambda delta) ≡ 7 + suc n * (3 + 2 * N) + 2 * (3 + N)
-  written-length = omega (arith, list-length list ((header ++ rowsWritten N rows (suc n)) ++ fieldWritten 0x30 lambda) [] (lambdaFrom + (3 + N)) 0x31 delta delta-stands before-delta)
+  unfolding delta-stands
+  written-length = omega (arith, list-length delta-stands)
 
   -- each of its numbers is a byte
   pub written-bytes : Below 65536 rows → Below 256 lambda → Below 256 delta → Below 256 (written n h N rows lambda delta)
@@ -251,28 +237,22 @@ module _ (n h N : ℕ) (rows lambda delta : List ℕ) (s : Sized n N h) (rows-le
       (below-append 256 (rowsWritten N rows (suc n)) marks (rows-bytes fr (suc n) (omega arith))
       (below-append 256 (fieldWritten 0x30 lambda) (fieldWritten 0x31 delta) (below-field 0x30 lambda (omega arith) (omega arith) fl) (below-field 0x31 delta (omega arith) (omega arith) fd)))
 
-  header-fine : field list 0 0x01 4 ≡ accepted
-  unfolding written inTwoBytes
-  header-fine = field-accepted list [] (rowsWritten N rows (suc n) ++ marks) 0 0x01 (n ∷ h ∷ inTwoBytes (N ∷ [])) refl refl
+  header-fine : field list 0 0x01 4 then sizes n N h ≡ accepted
+  unfolding written inTwoBytes sizes number1 number2 number3
+  header-fine =
+      let f : Stands list 0 0x01 (n ∷ h ∷ inTwoBytes (N ∷ [])) = record { before = []; after = rowsWritten N rows (suc n) ++ marks; is = refl; starts = refl } in
+      rw (field-accepted f, le-leb 1 n (s .one-dimension), le-leb n 4 (s .dimension), le-leb 1 N (s .one-dart), le-leb N 4096 (s .darts), le-ltb 32 h (s .height))
 
   row-fine : (i : ℕ) → i ≤ n → field list (7 + i * (3 + 2 * N)) (0x10 + i) (2 * N) ≡ accepted
-  row-fine i l =
-      let f = field-accepted list (header ++ rowsWritten N rows i) (after-row i l .after ++ marks) (7 + i * (3 + 2 * N)) (0x10 + i) (inTwoBytes (rowOf N rows i)) (row-stands i l) (before-row i (omega arith)) in
-      rw (row-length i l) at f
-
-  lambda-fine : field list lambdaFrom 0x30 N ≡ accepted
-  lambda-fine = rw lambda-length at (field-accepted list (header ++ rowsWritten N rows (suc n)) (fieldWritten 0x31 delta) lambdaFrom 0x30 lambda lambda-stands before-lambda)
-
-  delta-fine : field list (lambdaFrom + (3 + N)) 0x31 N ≡ accepted
-  delta-fine = rw delta-length at (field-accepted list ((header ++ rowsWritten N rows (suc n)) ++ fieldWritten 0x30 lambda) [] (lambdaFrom + (3 + N)) 0x31 delta delta-stands before-delta)
+  row-fine i l = rw (row-length i l) at (field-accepted (row-stands i l))
 
   -- what stands in the rows
-  row-value : (i d : ℕ) → i ≤ n → d < N → tableEntry list N false (i * N + d) ≡ getD rows (i * N + d) 0
+  row-value : (i d : ℕ) → i ≤ n → d < N → getD rows (i * N + d) 0 ≡ tableEntry list N false (i * N + d)
   unfolding rowOf
   row-value i d li ld =
       let row = take N (drop (i * N) rows) in
       let at = 7 + i * (3 + 2 * N) in
-      let read = field-body list (header ++ rowsWritten N rows i) (after-row i li .after ++ marks) at (0x10 + i) (inTwoBytes row) (row-stands i li) (before-row i (omega arith)) in
+      let read = field-body (row-stands i li) in
       let e = row-length i li in
       let x : getD row d 0 ≡ getD rows (i * N + d) 0 = getD-take N (drop (i * N) rows) d 0 ld ∙ getD-drop (i * N) rows d 0 in
       let low : getD list (at + 3 + 2 * d) 0 ≡ getD rows (i * N + d) 0 % 256 = read (2 * d) (omega arith) ∙ low-two row d ∙ ap (λ (y : ℕ). y % 256) x in
@@ -282,37 +262,29 @@ module _ (n h N : ℕ) (rows lambda delta : List ℕ) (s : Sized n N h) (rows-le
 
   first-tag : getD list 7 0 ≡ 0x10
   first-tag =
-      let l : 0 ≤ n = omega arith in
-      let at = 7 + 0 * (3 + 2 * N) in
-      let seven : 7 ≡ at = omega (arith, zero-mul (3 + 2 * N)) in
-      ap (λ (x : ℕ). getD list x 0) seven ∙ field-tag list (header ++ rowsWritten N rows 0) (after-row 0 l .after ++ marks) at 0x10 (inTwoBytes (rowOf N rows 0)) (row-stands 0 l) (before-row 0 (omega arith))
-
-  told : Told list n h N false
-  unfolding headerOf written fieldWritten inTwoBytes sizes number1 number2 number3
-  told =
-      let N′ : N ≡ recordDarts list = omega arith in
-      record {
-        header = rw (header-fine, sym N′, le-leb 1 n (s .one-dimension), le-leb n 4 (s .dimension), le-leb 1 N (s .one-dart), le-leb N 4096 (s .darts), le-ltb 32 h (s .height));
-        dimension = refl;
-        height = refl;
-        darts = N′;
-        kind = ap (λ (x : ℕ). eqb x 0x20 && leb (recordDarts list) 256) (sym first-tag);
-        sized = s;
-      }
+      let seven : 7 ≡ 7 + 0 * (3 + 2 * N) = omega (arith, zero-mul (3 + 2 * N)) in
+      ap (λ (x : ℕ). getD list x 0) seven ∙ field-tag (row-stands 0 (omega arith))
 
   -- what taking it into lent slices of these lengths gives
   module _ (lentRows lentLambda lentDelta : List ℕ) (rows-lent : length lentRows ≡ suc n * N) (lambda-lent : length lentLambda ≡ N) (delta-lent : length lentDelta ≡ N) where
-    rest-fine : restOf list n N false (length lentRows) (length lentLambda) (length lentDelta) ≡ accepted
-    unfolding restOf fieldsOf roomOf number4
+    told : Told list lentRows lentLambda lentDelta n h N false true
+    unfolding written fieldWritten inTwoBytes
+    told = record {
+      dimension = refl;
+      height = refl;
+      darts = omega arith;
+      kind = ap (λ (x : ℕ). eqb x 0x20 && leb N 256) (sym first-tag);
+      fit = rw (le-leb (suc n * N) (length lentRows) (omega arith), le-leb N (length lentLambda) (omega arith), le-leb N (length lentDelta) (omega arith));
+    }
+
+    rest-fine : restOf list n N false true ≡ accepted
+    unfolding restOf roomOf number4
     rest-fine =
         rw (
-          scan-all (suc n) (rowField list 0x10 (2 * N)) (λ i l. row-fine i (omega arith)),
-          lambda-fine,
-          delta-fine,
+          scan-all (suc n) (rowField list false (2 * N)) (λ i l. row-fine i (omega arith)),
+          rw lambda-length at (field-accepted lambda-stands),
+          rw delta-length at (field-accepted delta-stands),
           le-ltb (lambdaFrom + (3 + N) + (3 + N)) (length list) (omega (arith, written-length)),
-          le-leb (suc n * N) (length lentRows) (omega arith),
-          le-leb N (length lentLambda) (omega arith),
-          le-leb N (length lentDelta) (omega arith),
         )
 
     pub record TakenBack : Type 0 where
@@ -326,21 +298,17 @@ module _ (n h N : ℕ) (rows lambda delta : List ℕ) (s : Sized n N h) (rows-le
 
     pub round-trip : TakenBack
     round-trip =
-        let r = rest-accepted list lentRows lentLambda lentDelta n h N false told rest-fine in
-        let inLambda = field-body list (header ++ rowsWritten N rows (suc n)) (fieldWritten 0x31 delta) lambdaFrom 0x30 lambda lambda-stands before-lambda in
-        let inDelta = field-body list ((header ++ rowsWritten N rows (suc n)) ++ fieldWritten 0x30 lambda) [] (lambdaFrom + (3 + N)) 0x31 delta delta-stands before-delta in
+        let at-row : (x : ℕ) → x < suc n * N → getD rows x 0 ≡ tableEntry list N false x = λ x l. let p = place n N x l in rw (p .2) at (row-value (x / N) (x % N) (p .0) (p .1)) in
+        let r =
+        all-taken told header-fine rest-fine (laid-whole rows-lent rows-length at-row) (laid-whole lambda-lent lambda-length (λ x l. sym (field-body lambda-stands x (omega arith)))) (laid-whole delta-lent delta-length (λ x l. sym (field-body delta-stands x (omega arith)))) in
         record {
-          verdict = lent-rest list lentRows lentLambda lentDelta n h N false told ∙ rest-fine;
+          verdict = lent-is told ∙ rw (header-fine, rest-fine);
           dimension = sym (told .dimension);
           height = sym (told .height);
           darts = sym (told .darts);
-          rowsBack =
-              sym (r .1)
-              ∙ laid-all (tableEntry list N false) (suc n * N) lentRows rows rows-lent rows-length (λ x l.
-              let p = place n N x l in
-              ap (λ (y : ℕ). getD rows y 0) (sym (p .2)) ∙ sym (row-value (x / N) (x % N) (p .0) (p .1)) ∙ ap (tableEntry list N false) (p .2));
-          lambdaBack = sym (r .2) ∙ laid-all (byteFrom list (lambdaFrom + 3)) N lentLambda lambda lambda-lent lambda-length (λ x l. sym (inLambda x (omega arith)));
-          deltaBack = sym (r .3) ∙ laid-all (byteFrom list (lambdaFrom + (3 + N) + 3)) N lentDelta delta delta-lent delta-length (λ x l. sym (inDelta x (omega arith)));
+          rowsBack = sym (r .1 .0);
+          lambdaBack = sym (r .1 .1 .0);
+          deltaBack = sym (r .1 .1 .1);
         }
 
 -- largest record: 49,180 bytes

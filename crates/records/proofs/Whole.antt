@@ -1,26 +1,25 @@
--- Laws of a whole record: its tests in two parts, what an accepted header and an accepted rest tell, and what is left behind. Assumes nothing.
-use mathlib.Core.Path.{_≡_, refl, sym, ap, _∙_}
-use mathlib.Core.Bool.{Bool, _&&_}
+-- Laws of a whole record: its tests in two parts, what accepted tests tell, and what is left behind. Assumes nothing.
+use mathlib.Core.Path.{_≡_, refl, sym, _∙_}
+use mathlib.Core.Bool.{Bool, _&&_, not}
 use mathlib.Core.List.{List}
 use Prim.Native.Nat.{ℕ, suc, _+_, _*_, _≤_}
 use native.Mathlib.Omega.{arith}
-use lib.ListN.{length, getD}
+use lib.ListN.{length}
 use lib.Dec.{eqb, leb, ltb}
-use borrow.Author.Tests.{leb-true, not-false}
+use borrow.Author.Tests.{leb-true, ltb-false}
 use Rattle.maps.specs.Verdict.{Verdict, accepted, refused, when, _then_, scan}
 use Rattle.maps.specs.Sizes.{sizes, number4}
-use Rattle.maps.specs.Record.{field, recordDimension, recordHeight, recordDarts, oneByte, lambdaAt, deltaAt, endAt, formed, takeLent, takeRows, takeLambda, takeDelta}
-use Rattle.facts.proofs.Verdicts.{then-accepted, when-accepted, and-both}
+use Rattle.maps.specs.Record.{byte, twoBytes, field, recordDimension, recordHeight, recordDarts, oneByte, rowSize, lambdaAt, deltaAt, endAt, formed, takeLent, takeRows, takeLambda, takeDelta}
+use Rattle.laws.proofs.Verdicts.{then-accepted, when-accepted, and-both}
+use Rattle.laws.proofs.Sizes.{Sized, sizes-sized, lengths-exact}
 use Rattle.answers.specs.Numbers.{refusalOf}
 use Rattle.answers.specs.declared.Refusal.{Refusal}
-use Rattle.answers.proofs.Refusals.{refusal-refuses, refused-then}
-use Rattle.facts.proofs.Sizes.{Sized, sizes-sized}
-use Rattle.records.specs.Answers.{Outcome, saying, taken}
-use Rattle.records.specs.Parts.{headerOf, tagOf, sizeOf, marksAt, rowField, fieldsOf, roomOf, restOf, byteFrom, tableEntry, laid}
+use Rattle.answers.proofs.Refusals.{refusal-refuses}
+use Rattle.records.specs.Answers.{saying, taken}
+use Rattle.records.specs.Parts.{sizeOf, marksAt, rowField, roomOf, restOf, byteFrom, tableEntry, Laid}
 use Rattle.records.proofs.Laid.{laid-front}
-use Rattle.records.proofs.Tagged.{field-room, saying-refused}
 
-regroup : (a b c d e f g : Verdict) → (a then (b then (c then (d then (e then f))))) then g ≡ (a then b) then ((c then (d then e)) then (f then g))
+regroup : (a b c d e f g : Verdict) → (a then (b then (c then (d then (e then f))))) then g ≡ (a then b) then (c then (d then (e then (f then g))))
 regroup (refused k l i x) b c d e f g = refl
 regroup accepted (refused k l i x) c d e f g = refl
 regroup accepted accepted (refused k l i x) d e f g = refl
@@ -28,95 +27,70 @@ regroup accepted accepted accepted (refused k l i x) e f g = refl
 regroup accepted accepted accepted accepted (refused k l i x) f g = refl
 regroup accepted accepted accepted accepted accepted f g = refl
 
-module _ (b rows lambda delta : List ℕ) where
-  abbrev restTests : Verdict
-  restTests = restOf b (recordDimension b) (recordDarts b) (oneByte b) (length rows) (length lambda) (length delta)
+-- the body of an accepted field lies in the record
+field-room : (bytes : List ℕ) (at tag size : ℕ) → field bytes at tag size ≡ accepted → at + 3 + size ≤ length bytes
+unfolding field
+field-room bytes at tag size e =
+    let v₅ = when (ltb (length bytes) (at + 3 + size)) (refused 16 0 0 at) in
+    let v₄ = when (not (eqb (twoBytes bytes (at + 1)) size)) (refused 18 0 0 at) in
+    let v₃ = when (ltb (length bytes) (at + 3)) (refused 16 0 0 at) in
+    let v₂ = when (not (eqb (byte bytes at) tag)) (refused 17 0 0 at) in
+    let v₁ = when (leb (length bytes) at) (refused 16 0 0 at) in
+    let f = then-accepted v₁ (v₂ then (v₃ then (v₄ then v₅))) e .1 in
+    let g = then-accepted v₂ (v₃ then (v₄ then v₅)) f .1 in
+    let h = then-accepted v₃ (v₄ then v₅) g .1 in
+    ltb-false (length bytes) (at + 3 + size) (when-accepted (ltb (length bytes) (at + 3 + size)) 16 0 0 at (then-accepted v₄ v₅ h .1))
 
-  -- the header, and the rest
-  lent-parts : takeLent b rows lambda delta ≡ headerOf b then restTests
-  unfolding takeLent formed headerOf restOf fieldsOf roomOf
-  lent-parts =
-      let n = recordDimension b in
-      let N = recordDarts b in
-      regroup (field b 0 0x01 4) (sizes n N (recordHeight b)) (scan (suc n) (rowField b (tagOf (oneByte b)) (sizeOf N (oneByte b)))) (field b (lambdaAt b) 0x30 N) (field b (deltaAt b) 0x31 N) (when (ltb (endAt b) (length b)) (refused 19 0 0 (endAt b)))
-      (number4 (leb (suc n * N) (length rows) && (leb N (length lambda) && leb N (length delta))))
+-- after a refusal nothing lent has changed
+pub left-alone : (b rows lambda delta : List ℕ) (r : Refusal) → refusalOf r ≡ takeLent b rows lambda delta
+    → (saying (refusalOf r) 0 0 0 ≡ taken b rows lambda delta) × ((rows ≡ takeRows b rows lambda delta) × ((lambda ≡ takeLambda b rows lambda delta) × (delta ≡ takeDelta b rows lambda delta)))
+unfolding takeRows takeLambda takeDelta
+left-alone b rows lambda delta r e =
+    let x = refusal-refuses r in
+    let f : takeLent b rows lambda delta ≡ refused (x .number) (x .level) (x .involution) (x .dart) = sym e ∙ x .is in
+    (rw (x .is, f), (rw f, (rw f, rw f)))
 
-  -- after a refusal nothing lent has changed
-  abbrev pub Unchanged : Outcome → Type 0
-  Unchanged o = (o ≡ taken b rows lambda delta) × (rows ≡ takeRows b rows lambda delta) × (lambda ≡ takeLambda b rows lambda delta) × (delta ≡ takeDelta b rows lambda delta)
-
-  left-alone : (r : Refusal) → refusalOf r ≡ takeLent b rows lambda delta → Unchanged (saying (refusalOf r) 0 0 0)
-  unfolding takeRows takeLambda takeDelta
-  left-alone r e =
-      let x = refusal-refuses r in
-      let f : takeLent b rows lambda delta ≡ refused (x .number) (x .level) (x .involution) (x .dart) = sym e ∙ x .is in
-      (saying-refused r (takeLent b rows lambda delta) (recordDimension b) (recordHeight b) (recordDarts b) e, rw f, rw f, rw f)
-
-  -- the header is refused
-  pub header-refused : (r : Refusal) → saying (refusalOf r) 0 0 0 ≡ saying (headerOf b) (recordDimension b) (recordHeight b) (recordDarts b) → Unchanged (saying (refusalOf r) 0 0 0)
-  header-refused r e = left-alone r (refused-then r (headerOf b) restTests (ap (λ (o : Outcome). o .verdict) e) ∙ sym lent-parts)
-
--- an accepted header's values, and the kind that the first row's tag settles
-pub record Told (b : List ℕ) (n h N : ℕ) (one : Bool) : Type 0 where
-  pub header : headerOf b ≡ accepted
+-- what is read of a record before its rows: n, h, N, the kind of its rows, and whether there is room for it
+pub record Told (b rows lambda delta : List ℕ) (n h N : ℕ) (one enough : Bool) : Type 0 where
   pub dimension : n ≡ recordDimension b
   pub height : h ≡ recordHeight b
   pub darts : N ≡ recordDarts b
-  pub kind : one ≡ oneByte b
-  pub sized : Sized n N h
+  pub kind : one ≡ (eqb (byte b 7) 0x20 && leb N 256)
+  pub fit : enough ≡ (leb (suc n * N) (length rows) && (leb N (length lambda) && leb N (length delta)))
 
-pub header-told : (b : List ℕ) (n h N tag : ℕ) (one : Bool) → saying accepted n h N ≡ saying (headerOf b) (recordDimension b) (recordHeight b) (recordDarts b)
-    → tag ≡ getD b 7 0 → one ≡ (eqb tag 0x20 && leb N 256) → Told b n h N one
-unfolding headerOf
-header-told b n h N tag one e t k =
-    let v : headerOf b ≡ accepted = sym (ap (λ (o : Outcome). o .verdict) e) in
-    let n′ : n ≡ recordDimension b = rw v at (ap (λ (o : Outcome). o .dimension) e) in
-    let h′ : h ≡ recordHeight b = rw v at (ap (λ (o : Outcome). o .height) e) in
-    let N′ : N ≡ recordDarts b = rw v at (ap (λ (o : Outcome). o .darts) e) in
-    record {
-      header = v;
-      dimension = n′;
-      height = h′;
-      darts = N′;
-      kind = k ∙ rw (t, N′);
-      sized = sizes-sized n N h (rw (n′, h′, N′) (then-accepted (field b 0 0x01 4) (sizes (recordDimension b) (recordDarts b) (recordHeight b)) v .1));
-    }
+module _ {b rows lambda delta : List ℕ} {n h N : ℕ} {one enough : Bool} (t : Told b rows lambda delta n h N one enough) where
+  -- the tests of the header, and of the rest
+  pub lent-is : takeLent b rows lambda delta ≡ (field b 0 0x01 4 then sizes n N h) then restOf b n N one enough
+  unfolding takeLent formed restOf roomOf
+  lent-is =
+      rw (t .fit, t .kind, t .dimension, t .height, t .darts)
+      (regroup (field b 0 0x01 4) (sizes (recordDimension b) (recordDarts b) (recordHeight b)) (scan (suc (recordDimension b)) (rowField b (oneByte b) (rowSize b))) (field b (lambdaAt b) 0x30 (recordDarts b)) (field b (deltaAt b) 0x31 (recordDarts b)) (when (ltb (endAt b) (length b)) (refused 19 0 0 (endAt b)))
+      (number4 (leb (suc (recordDimension b) * recordDarts b) (length rows) && (leb (recordDarts b) (length lambda) && leb (recordDarts b) (length delta)))))
 
-module _ (b rows lambda delta : List ℕ) (n h N : ℕ) (one : Bool) (t : Told b n h N one) where
-  pub lent-rest : takeLent b rows lambda delta ≡ restOf b n N one (length rows) (length lambda) (length delta)
-  lent-rest = lent-parts b rows lambda delta ∙ rw (t .header, t .dimension, t .darts, t .kind)
+  module _ (e : field b 0 0x01 4 then sizes n N h ≡ accepted) where
+    pub small : Sized n N h
+    small = sizes-sized n N h (then-accepted (field b 0 0x01 4) (sizes n N h) e .1)
 
-  -- the rest is refused
-  pub rest-refused : (r : Refusal) → refusalOf r ≡ restOf b n N one (length rows) (length lambda) (length delta) → Unchanged b rows lambda delta (saying (refusalOf r) 0 0 0)
-  rest-refused r e = left-alone b rows lambda delta r (e ∙ sym lent-rest)
+    module _ (f : restOf b n N one enough ≡ accepted) where
+      -- there is room for all that is copied
+      pub room-for : (n ≤ 4) × (1 ≤ N) × (N ≤ 4096) × (marksAt n N one + (3 + N) + (3 + N) ≤ length b) × (suc n * N ≤ length rows) × (N ≤ length lambda) × (N ≤ length delta)
+      unfolding restOf roomOf
+      room-for =
+          let at = marksAt n N one in
+          let last = field b (at + (3 + N)) 0x31 N in
+          let w = when (ltb (at + (3 + N) + (3 + N)) (length b)) (refused 19 0 0 (at + (3 + N) + (3 + N))) in
+          let p = then-accepted (scan (suc n) (rowField b one (sizeOf N one))) (field b at 0x30 N then (last then (w then number4 enough))) f in
+          let q = then-accepted (field b at 0x30 N) (last then (w then number4 enough)) (p .1) in
+          let r = then-accepted last (w then number4 enough) (q .1) in
+          let x = and-both (leb (suc n * N) (length rows)) (leb N (length lambda) && leb N (length delta)) (sym (t .fit) ∙ lengths-exact enough (then-accepted w (number4 enough) (r .1) .1)) in
+          let y = and-both (leb N (length lambda)) (leb N (length delta)) (x .1) in
+          let s = small in
+          (s .dimension, s .one-dart, s .darts, omega (arith, field-room b (at + (3 + N)) 0x31 N (r .0)), leb-true (suc n * N) (length rows) (x .0), leb-true N (length lambda) (y .0), leb-true N (length delta) (y .1))
 
-  module _ (e : restOf b n N one (length rows) (length lambda) (length delta) ≡ accepted) where
-    -- there is room for all that is copied
-    pub rest-room : (n ≤ 4) × (1 ≤ N) × (N ≤ 4096) × (marksAt n N one + (3 + N) + (3 + N) ≤ length b) × (suc n * N ≤ length rows) × (N ≤ length lambda) × (N ≤ length delta)
-    unfolding restOf fieldsOf roomOf number4
-    rest-room =
-        let at = marksAt n N one in
-        let s = scan (suc n) (rowField b (tagOf one) (sizeOf N one)) in
-        let f = field b at 0x30 N in
-        let g = field b (at + (3 + N)) 0x31 N in
-        let w = when (ltb (at + (3 + N) + (3 + N)) (length b)) (refused 19 0 0 (at + (3 + N) + (3 + N))) in
-        let enough = leb (suc n * N) (length rows) && (leb N (length lambda) && leb N (length delta)) in
-        let p = then-accepted (s then (f then g)) (w then number4 enough) e in
-        let d = field-room b (at + (3 + N)) 0x31 N (then-accepted f g (then-accepted s (f then g) (p .0) .1) .1) in
-        let q = and-both (leb (suc n * N) (length rows)) (leb N (length lambda) && leb N (length delta)) (not-false enough (when-accepted _ 4 0 0 0 (then-accepted w (number4 enough) (p .1) .1))) in
-        let k = and-both (leb N (length lambda)) (leb N (length delta)) (q .1) in
-        (t .sized .dimension, t .sized .one-dart, t .sized .darts, omega arith, leb-true (suc n * N) (length rows) (q .0), leb-true N (length lambda) (k .0), leb-true N (length delta) (k .1))
-
-    -- the record is taken
-    pub rest-accepted : (saying accepted n h N ≡ taken b rows lambda delta)
-        × (laid (tableEntry b N one) 0 (suc n * N) rows ≡ takeRows b rows lambda delta)
-        × (laid (byteFrom b (marksAt n N one + 3)) 0 N lambda ≡ takeLambda b rows lambda delta)
-        × (laid (byteFrom b (marksAt n N one + (3 + N) + 3)) 0 N delta ≡ takeDelta b rows lambda delta)
-    unfolding takeRows takeLambda takeDelta
-    rest-accepted =
-        let v : takeLent b rows lambda delta ≡ accepted = lent-rest ∙ e in (
-          rw (v, t .dimension, t .height, t .darts),
-          rw (v, t .dimension, t .darts, t .kind) (laid-front (tableEntry b (recordDarts b) (oneByte b)) (suc (recordDimension b) * recordDarts b) rows),
-          rw (v, t .dimension, t .darts, t .kind) (laid-front (byteFrom b (lambdaAt b + 3)) (recordDarts b) lambda),
-          rw (v, t .dimension, t .darts, t .kind) (laid-front (byteFrom b (deltaAt b + 3)) (recordDarts b) delta),
-        )
+      -- the record is taken
+      pub all-taken : {rows′ lambda′ delta′ : List ℕ} → Laid (tableEntry b N one) 0 (suc n * N) rows rows′ → Laid (byteFrom b (marksAt n N one + 3)) 0 N lambda lambda′ → Laid (byteFrom b (marksAt n N one + (3 + N) + 3)) 0 N delta delta′
+          → (saying accepted n h N ≡ taken b rows lambda delta) × ((rows′ ≡ takeRows b rows lambda delta) × ((lambda′ ≡ takeLambda b rows lambda delta) × (delta′ ≡ takeDelta b rows lambda delta)))
+      unfolding takeRows takeLambda takeDelta
+      all-taken s u w =
+          let v : takeLent b rows lambda delta ≡ accepted = lent-is ∙ rw (e, f) in
+          (rw (v, t .dimension, t .height, t .darts), (rw v (rw (t .kind, t .dimension, t .darts) at (laid-front s)), (rw v (rw (t .kind, t .dimension, t .darts) at (laid-front u)), rw v (rw (t .kind, t .dimension, t .darts) at (laid-front w)))))

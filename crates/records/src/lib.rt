@@ -9,16 +9,17 @@ use copying::copy_bytes;
 use copying::copy_narrow;
 use copying::copy_wide;
 ghost use mathlib.Core.Path.{_≡_};
-ghost use mathlib.Core.Bool.{_&&_};
+ghost use mathlib.Core.Bool.{cond, _&&_};
 ghost use Prim.Native.Nat.{suc, _+_, _*_, _≤_};
 ghost use lib.ListN.{length, getD};
 ghost use lib.Dec.{eqb, leb};
-ghost use Rattle.maps.specs.Verdict.{scan};
-ghost use Rattle.maps.specs.Record.{field as fieldOf, recordDimension, recordHeight, recordDarts, takeRows, takeLambda, takeDelta};
+ghost use Rattle.maps.specs.Verdict.{_then_, scan};
+ghost use Rattle.maps.specs.Sizes.{sizes as sizesOf};
+ghost use Rattle.maps.specs.Record.{field as fieldOf, takeRows, takeLambda, takeDelta};
 ghost use Rattle.answers.specs.Numbers.{verdictOf};
-ghost use Rattle.records.specs.Answers.{takenOf, saying, taken};
-ghost use Rattle.records.specs.Kinds.{kindOf};
-ghost use Rattle.records.specs.Parts.{headerOf, sizeOf, tagOf, marksAt, rowField, fieldsOf, roomOf, restOf, byteFrom, entryFrom, tableEntry, laid};
+ghost use Rattle.records.specs.Answers.{takenOf, taken};
+ghost use Rattle.records.specs.Kinds.{kindOf, tagOf, Due, Says};
+ghost use Rattle.records.specs.Parts.{sizeOf, marksAt, rowField, roomOf, restOf, byteFrom, entryFrom, tableEntry, Laid};
 
 // The answer: n, h and N, or why the record is refused.
 pub enum Taken {
@@ -29,20 +30,20 @@ pub enum Taken {
 // What a tag says; a row's tag says which row.
 enum Kind {
     Header,
-    Wide(u8),
-    Narrow(u8),
+    Wide(Dim),
+    Narrow(Dim),
     Lambda,
     Delta,
     Other,
 }
 
-// Rows' tags by ranges, the header's and the marks' tags apart.
+// What a tag says: this match alone decides it.
 fn kind_of(tag: u8) -> Kind
     ensures { λ r. ⌜ r ≡ kindOf tag ⌝ }
 {
     match tag {
-        0x10..=0x14 => Kind::Wide(tag - 0x10),
-        0x20..=0x24 => Kind::Narrow(tag - 0x20),
+        0x10..=0x14 => Kind::Wide(Dim(tag - 0x10)),
+        0x20..=0x24 => Kind::Narrow(Dim(tag - 0x20)),
         0x01 => Kind::Header,
         0x30 => Kind::Lambda,
         0x31 => Kind::Delta,
@@ -50,16 +51,32 @@ fn kind_of(tag: u8) -> Kind
     }
 }
 
-// The first row's tag settles the kind: has an entry one byte?
-fn one_byte(tag: u8, darts: u16) -> bool
-    ensures { λ r. ⌜ r ≡ (eqb tag 0x20 && leb darts 256) ⌝ }
+// Is a kind the one that is due? No field is due with another tag.
+fn is_due(kind: Kind, due: Kind) -> bool
+    requires { ⌜ Due due ⌝ }
+    ensures { λ r. ⌜ Says r (kind ≡ due) ⌝ }
 {
-    match kind_of(tag) {
-        Kind::Narrow(row) => { if row == 0 { darts <= 256 } else { false } },
-        Kind::Wide(_) => false,
-        Kind::Header => false,
-        Kind::Lambda => false,
-        Kind::Delta => false,
+    match due {
+        Kind::Header => match kind {
+            Kind::Header => true,
+            _ => false,
+        },
+        Kind::Wide(i) => match kind {
+            Kind::Wide(row) => row.0 == i.0,
+            _ => false,
+        },
+        Kind::Narrow(i) => match kind {
+            Kind::Narrow(row) => row.0 == i.0,
+            _ => false,
+        },
+        Kind::Lambda => match kind {
+            Kind::Lambda => true,
+            _ => false,
+        },
+        Kind::Delta => match kind {
+            Kind::Delta => true,
+            _ => false,
+        },
         Kind::Other => false,
     }
 }
@@ -78,16 +95,44 @@ fn two_bytes(low: u8, high: u8) -> u16
     wide(low) + 256 * wide(high)
 }
 
+// A byte, or 0 where there is none.
+fn byte_at(bytes: &[u8], at: usize) -> u8
+    ensures { λ r. ⌜ r ≡ getD (now (bytes .entry)) at 0 ⌝ }
+{
+    if bytes.len() <= at {
+        return 0;
+    }
+    bytes[at]
+}
+
+// The first row's tag settles the kind: has an entry one byte?
+fn one_byte(bytes: &[u8], darts: u16) -> bool
+    ensures { λ r. ⌜ r ≡ (eqb (getD (now (bytes .entry)) 7 0) 0x20 && leb darts 256) ⌝ }
+{
+    let narrow = is_due(kind_of(byte_at(bytes, 7)), Kind::Narrow(Dim(0)));
+    answers::both(narrow, darts <= 256)
+}
+
+// The first of two checks where it refuses, else the second.
+fn first_of(first: Check, second: Check) -> Check
+    ensures { λ r. ⌜ verdictOf r ≡ (verdictOf first then verdictOf second) ⌝ }
+{
+    match first {
+        Check::Refused(r) => Check::Refused(r),
+        Check::Accepted => second,
+    }
+}
+
 // The field at an offset: 16, 17 and 18 in the document's order.
-fn field(bytes: &[u8], at: u16, tag: u8, size: u16) -> Check
-    requires { ⌜ (at ≤ 50000) × (size ≤ 8192) ⌝ }
-    ensures { λ r. ⌜ verdictOf r ≡ fieldOf (now (bytes .entry)) at tag size ⌝ }
+fn field(bytes: &[u8], at: u16, due: Kind, size: u16) -> Check
+    requires { ⌜ (at ≤ 50000) × (size ≤ 8192) × Due due ⌝ }
+    ensures { λ r. ⌜ verdictOf r ≡ fieldOf (now (bytes .entry)) at (tagOf due) size ⌝ }
 {
     let start = at as usize;
     if bytes.len() <= start {
         return Check::Refused(Refusal::EndsEarly(at));
     }
-    if bytes[start] != tag {
+    if !is_due(kind_of(bytes[start]), due) {
         return Check::Refused(Refusal::OtherTag(at));
     }
     if bytes.len() < start + 3 {
@@ -104,37 +149,19 @@ fn field(bytes: &[u8], at: u16, tag: u8, size: u16) -> Check
 }
 
 // The header's field, then its values: 1, 2, 3.
-fn header(bytes: &[u8]) -> Taken
-    ensures { λ r. ⌜ takenOf r ≡ saying (headerOf (now (bytes .entry))) (recordDimension (now (bytes .entry))) (recordHeight (now (bytes .entry))) (recordDarts (now (bytes .entry))) ⌝ }
+fn header(bytes: &[u8], n: Dim, darts: u16, h: Level) -> Check
+    ensures { λ r. ⌜ verdictOf r ≡ (fieldOf (now (bytes .entry)) 0 0x01 4 then sizesOf (n .0) darts (h .0)) ⌝ }
 {
-    match field(bytes, 0, 0x01, 4) {
-        Check::Refused(r) => Taken::Refused(r),
-        Check::Accepted => {
-            let n = Dim(bytes[3]);
-            let h = Level(bytes[4]);
-            let darts = two_bytes(bytes[5], bytes[6]);
-            match answers::sizes(n, darts, h) {
-                Check::Refused(r) => Taken::Refused(r),
-                Check::Accepted => Taken::Record(n, h, darts),
-            }
-        },
-    }
-}
-
-// The tag that settles the kind, or 0 where there is none.
-fn first_tag(bytes: &[u8]) -> u8
-    ensures { λ r. ⌜ r ≡ getD (now (bytes .entry)) 7 0 ⌝ }
-{
-    if bytes.len() <= 7 {
-        return 0;
-    }
-    bytes[7]
+    first_of(
+        field(bytes, 0, Kind::Header, 4),
+        answers::sizes(n, darts, h),
+    )
 }
 
 // The bytes of a row's body.
 fn row_size(darts: u16, one: bool) -> u16
     requires { ⌜ darts ≤ 4096 ⌝ }
-    ensures { λ r. ⌜ r ≡ sizeOf darts one ⌝ }
+    ensures { λ r. ⌜ (r ≡ sizeOf darts one) × (r ≤ 8192) ⌝ }
 {
     if one {
         return darts;
@@ -142,32 +169,33 @@ fn row_size(darts: u16, one: bool) -> u16
     2 * darts
 }
 
-// The first row's tag.
-fn row_tag(one: bool) -> u8
-    ensures { λ r. ⌜ r ≡ tagOf one ⌝ }
+// What a row's tag says.
+fn row_kind(row: Dim, one: bool) -> Kind
+    requires { ⌜ row .0 ≤ 4 ⌝ }
+    ensures { λ r. ⌜ Due r × (tagOf r ≡ cond one 0x20 0x10 + row .0) ⌝ }
 {
     if one {
-        return 0x20;
+        return Kind::Narrow(row);
     }
-    0x10
+    Kind::Wide(row)
 }
 
 // Where Λ stands.
-fn marks_at(n: u8, darts: u16, one: bool) -> u16
-    requires { ⌜ (n ≤ 4) × (darts ≤ 4096) ⌝ }
-    ensures { λ r. ⌜ r ≡ marksAt n darts one ⌝ }
+fn marks_at(n: Dim, darts: u16, one: bool) -> u16
+    requires { ⌜ (n .0 ≤ 4) × (darts ≤ 4096) ⌝ }
+    ensures { λ r. ⌜ (r ≡ marksAt (n .0) darts one) × (r ≤ 40982) ⌝ }
 {
-    7 + (wide(n) + 1) * (3 + row_size(darts, one))
+    7 + (wide(n.0) + 1) * (3 + row_size(darts, one))
 }
 
 // The fields of rows 0 to n.
-fn row_fields(bytes: &[u8], n: u8, tag: u8, size: u16) -> Check
-    requires { ⌜ (n ≤ 4) × (tag ≤ 0x20) × (size ≤ 8192) ⌝ }
-    ensures { λ r. ⌜ verdictOf r ≡ scan (suc n) (rowField (now (bytes .entry)) tag size) ⌝ }
+fn row_fields(bytes: &[u8], n: Dim, one: bool, size: u16) -> Check
+    requires { ⌜ (n .0 ≤ 4) × (size ≤ 8192) ⌝ }
+    ensures { λ r. ⌜ verdictOf r ≡ scan (suc (n .0)) (rowField (now (bytes .entry)) one size) ⌝ }
 {
     let mut at: u16 = 7;
-    for i in 0..n + 1 {
-        match field(bytes, at, tag + i, size) {
+    for i in 0..n.0 + 1 {
+        match field(bytes, at, row_kind(Dim(i), one), size) {
             Check::Refused(r) => return Check::Refused(r),
             Check::Accepted => at = at + (3 + size),
         }
@@ -175,35 +203,13 @@ fn row_fields(bytes: &[u8], n: u8, tag: u8, size: u16) -> Check
     Check::Accepted
 }
 
-// The fields of the rows, Λ and Δ.
-fn fields(bytes: &[u8], n: u8, darts: u16, one: bool) -> Check
-    requires { ⌜ (n ≤ 4) × (darts ≤ 4096) ⌝ }
-    ensures { λ r. ⌜ verdictOf r ≡ fieldsOf (now (bytes .entry)) n darts one ⌝ }
-{
-    let size = row_size(darts, one);
-    match row_fields(bytes, n, row_tag(one), size) {
-        Check::Refused(r) => return Check::Refused(r),
-        Check::Accepted => {},
-    }
-    let at = marks_at(n, darts, one);
-    match field(bytes, at, 0x30, darts) {
-        Check::Refused(r) => return Check::Refused(r),
-        Check::Accepted => {},
-    }
-    field(bytes, at + (3 + darts), 0x31, darts)
-}
-
 // Are lent slices of these lengths long enough?
-fn long_enough(all: usize, darts: usize, rows: usize, lambda: usize, delta: usize) -> bool
-    ensures { λ r. ⌜ r ≡ (leb all rows && (leb darts lambda && leb darts delta)) ⌝ }
+fn long_enough(n: Dim, darts: u16, rows: usize, lambda: usize, delta: usize) -> bool
+    ensures { λ r. ⌜ r ≡ (leb (suc (n .0) * darts) rows && (leb darts lambda && leb darts delta)) ⌝ }
 {
-    if rows < all {
-        return false;
-    }
-    if lambda < darts {
-        return false;
-    }
-    darts <= delta
+    let due = darts as usize;
+    let all = (n.0 as usize + 1) * due;
+    answers::both(all <= rows, answers::both(due <= lambda, due <= delta))
 }
 
 // Numbers 19 and 4: `length` bytes of which the record ends at `end`.
@@ -219,10 +225,25 @@ fn room(length: usize, end: u16, enough: bool) -> Check
     Check::Accepted
 }
 
+// All that is tested after the header: the fields of the rows, Λ and Δ, then 19 and 4.
+fn rest(bytes: &[u8], n: Dim, darts: u16, one: bool, enough: bool) -> Check
+    requires { ⌜ (n .0 ≤ 4) × (darts ≤ 4096) ⌝ }
+    ensures { λ r. ⌜ verdictOf r ≡ restOf (now (bytes .entry)) (n .0) darts one enough ⌝ }
+{
+    let at = marks_at(n, darts, one);
+    let next = at + (3 + darts);
+    let end = next + (3 + darts);
+    let rows = row_fields(bytes, n, one, row_size(darts, one));
+    let lambda = field(bytes, at, Kind::Lambda, darts);
+    let delta = field(bytes, next, Kind::Delta, darts);
+    let marks = first_of(lambda, first_of(delta, room(bytes.len(), end, enough)));
+    first_of(rows, marks)
+}
+
 // A row of either kind.
 fn copy_row(bytes: &[u8], from: usize, one: bool, count: usize, to: &mut [u16], at: usize)
     requires { ⌜ (from + sizeOf count one ≤ length (now bytes)) × (at + count ≤ length (now to)) ⌝ }
-    ensures { λ _. ⌜ now (to .exit) ≡ laid (entryFrom (now (bytes .entry)) one from) at count (now (to .entry)) ⌝ }
+    ensures { λ _. ⌜ Laid (entryFrom (now (bytes .entry)) one from) at count (now (to .entry)) (now (to .exit)) ⌝ }
 {
     if one {
         copy_narrow(bytes, from, count, to, at);
@@ -232,63 +253,36 @@ fn copy_row(bytes: &[u8], from: usize, one: bool, count: usize, to: &mut [u16], 
 }
 
 // All rows, to the front of the lent rows.
-fn copy_rows(bytes: &[u8], n: u8, darts: u16, one: bool, rows: &mut [u16])
-    requires { ⌜ (n ≤ 4) × (1 ≤ darts) × (darts ≤ 4096) × (marksAt n darts one ≤ length (now bytes)) × (suc n * darts ≤ length (now rows)) ⌝ }
-    ensures { λ _. ⌜ now (rows .exit) ≡ laid (tableEntry (now (bytes .entry)) darts one) 0 (suc n * darts) (now (rows .entry)) ⌝ }
+fn copy_rows(bytes: &[u8], n: Dim, darts: u16, one: bool, rows: &mut [u16])
+    requires { ⌜ (n .0 ≤ 4) × (1 ≤ darts) × (darts ≤ 4096) × (marksAt (n .0) darts one ≤ length (now bytes)) × (suc (n .0) * darts ≤ length (now rows)) ⌝ }
+    ensures { λ _. ⌜ Laid (tableEntry (now (bytes .entry)) darts one) 0 (suc (n .0) * darts) (now (rows .entry)) (now (rows .exit)) ⌝ }
 {
     let count = darts as usize;
     let step = 3 + row_size(darts, one) as usize;
     let mut from: usize = 10;
     let mut at: usize = 0;
-    for _i in 0..n + 1 {
+    for _i in 0..n.0 + 1 {
         copy_row(bytes, from, one, count, rows, at);
         from = from + step;
         at = at + count;
     }
 }
 
-// All that is tested after the header: the fields, 19 and 4, for lent slices of these lengths.
-fn rest(
-    bytes: &[u8],
-    n: u8,
-    darts: u16,
-    one: bool,
-    rows: usize,
-    lambda: usize,
-    delta: usize,
-) -> Check
-    requires { ⌜ (n ≤ 4) × (darts ≤ 4096) ⌝ }
-    ensures { λ r. ⌜ verdictOf r ≡ restOf (now (bytes .entry)) n darts one rows lambda delta ⌝ }
-{
-    match fields(bytes, n, darts, one) {
-        Check::Refused(r) => return Check::Refused(r),
-        Check::Accepted => {},
-    }
-    let count = darts as usize;
-    let all = (n as usize + 1) * count;
-    let end = marks_at(n, darts, one) + (3 + darts) + (3 + darts);
-    room(
-        bytes.len(),
-        end,
-        long_enough(all, count, rows, lambda, delta),
-    )
-}
-
 // All that an accepted record holds, copied.
 fn copy_all(
     bytes: &[u8],
-    n: u8,
+    n: Dim,
     darts: u16,
     one: bool,
     rows: &mut [u16],
     lambda: &mut [u8],
     delta: &mut [u8],
 )
-    requires { ⌜ (n ≤ 4) × (1 ≤ darts) × (darts ≤ 4096) × (marksAt n darts one + (3 + darts) + (3 + darts) ≤ length (now bytes))
-        × (suc n * darts ≤ length (now rows)) × (darts ≤ length (now lambda)) × (darts ≤ length (now delta)) ⌝ }
-    ensures { λ _. ⌜ now (rows .exit) ≡ laid (tableEntry (now (bytes .entry)) darts one) 0 (suc n * darts) (now (rows .entry)) ⌝ }
-    ensures { λ _. ⌜ now (lambda .exit) ≡ laid (byteFrom (now (bytes .entry)) (marksAt n darts one + 3)) 0 darts (now (lambda .entry)) ⌝ }
-    ensures { λ _. ⌜ now (delta .exit) ≡ laid (byteFrom (now (bytes .entry)) (marksAt n darts one + (3 + darts) + 3)) 0 darts (now (delta .entry)) ⌝ }
+    requires { ⌜ (n .0 ≤ 4) × (1 ≤ darts) × (darts ≤ 4096) × (marksAt (n .0) darts one + (3 + darts) + (3 + darts) ≤ length (now bytes))
+        × (suc (n .0) * darts ≤ length (now rows)) × (darts ≤ length (now lambda)) × (darts ≤ length (now delta)) ⌝ }
+    ensures { λ _. ⌜ Laid (tableEntry (now (bytes .entry)) darts one) 0 (suc (n .0) * darts) (now (rows .entry)) (now (rows .exit)) ⌝ }
+    ensures { λ _. ⌜ Laid (byteFrom (now (bytes .entry)) (marksAt (n .0) darts one + 3)) 0 darts (now (lambda .entry)) (now (lambda .exit)) ⌝ }
+    ensures { λ _. ⌜ Laid (byteFrom (now (bytes .entry)) (marksAt (n .0) darts one + (3 + darts) + 3)) 0 darts (now (delta .entry)) (now (delta .exit)) ⌝ }
 {
     let count = darts as usize;
     let at = marks_at(n, darts, one) as usize;
@@ -304,25 +298,17 @@ pub fn take(bytes: &[u8], rows: &mut [u16], lambda: &mut [u8], delta: &mut [u8])
     ensures { λ _. ⌜ now (lambda .exit) ≡ takeLambda (now (bytes .entry)) (now (rows .entry)) (now (lambda .entry)) (now (delta .entry)) ⌝ }
     ensures { λ _. ⌜ now (delta .exit) ≡ takeDelta (now (bytes .entry)) (now (rows .entry)) (now (lambda .entry)) (now (delta .entry)) ⌝ }
 {
-    match header(bytes) {
-        Taken::Refused(r) => Taken::Refused(r),
-        Taken::Record(n, h, darts) => {
-            let one = one_byte(first_tag(bytes), darts);
-            match rest(
-                bytes,
-                n.0,
-                darts,
-                one,
-                rows.len(),
-                lambda.len(),
-                delta.len(),
-            ) {
-                Check::Refused(r) => Taken::Refused(r),
-                Check::Accepted => {
-                    copy_all(bytes, n.0, darts, one, rows, lambda, delta);
-                    Taken::Record(n, h, darts)
-                },
-            }
-        },
+    let n = Dim(byte_at(bytes, 3));
+    let h = Level(byte_at(bytes, 4));
+    let darts = two_bytes(byte_at(bytes, 5), byte_at(bytes, 6));
+    if let Check::Refused(r) = header(bytes, n, darts, h) {
+        return Taken::Refused(r);
     }
+    let one = one_byte(bytes, darts);
+    let enough = long_enough(n, darts, rows.len(), lambda.len(), delta.len());
+    if let Check::Refused(r) = rest(bytes, n, darts, one, enough) {
+        return Taken::Refused(r);
+    }
+    copy_all(bytes, n, darts, one, rows, lambda, delta);
+    Taken::Record(n, h, darts)
 }

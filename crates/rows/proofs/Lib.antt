@@ -1,2 +1,3 @@
 mod Accepted
 mod Ones
+pub mod Promises

@@ -1,23 +1,21 @@
 -- Laws of binary digits: the number that has digit b set where a test holds, its ones, and the darts of 64 words. Assumes nothing.
 use mathlib.Core.Path.{_≡_, refl, sym, ap, _∙_}
-use mathlib.Core.Bool.{Bool, true, false, cond, _&&_}
-use mathlib.Core.List.{List, []}
+use mathlib.Core.Bool.{Bool, true, false, _&&_}
+use mathlib.Core.List.{List}
 use Prim.Native.Nat.{ℕ, zero, suc, _+_, _-_, _*_, _%_, _^_, _≤_, _<_}
 use native.Mathlib.Nat.{pow-suc, add-zero, add-suc, suc-mul}
 use native.Mathlib.Numerals.{add-one}
 use native.Mathlib.Omega.{arith}
-use lib.Count.{ones, onesIn, ones-cat}
-use lib.Dec.{leb, ltb}
-use lib.ListN.{length}
+use lib.Count.{ones, onesIn, ones-cat, ones-le}
+use lib.Dec.{ltb}
 use lib.Pow.{shl-exact}
 use lib.Bits.{bitOr, or-shifted-r}
-use borrow.Author.Tests.{le-ltb, lt-ltb, ltb-true, ltb-false, leb-true}
+use borrow.Author.Tests.{le-ltb, lt-ltb}
 use Rattle.maps.specs.Count.{one, count, sum}
 use Rattle.maps.specs.Folded.{survives, survivors}
 use Rattle.maps.specs.Table.{each}
 use Rattle.maps.specs.Survivors.{bit, word}
-use Rattle.facts.proofs.Counting.{count-add, count-same, sum-same}
-use Rattle.rows.specs.Parts.{inWord}
+use Rattle.laws.proofs.Counting.{count-add, count-same, sum-same}
 
 -- digit b is set where the test holds of b
 abbrev pub digit : (ℕ → Bool) → ℕ → ℕ
@@ -29,7 +27,7 @@ ones-one true = refl
 ones-one false = refl
 
 module _ (p : ℕ → Bool) where
-  pub digits-lt : (m : ℕ) → sum (digit p) m < 2 ^ m
+  digits-lt : (m : ℕ) → sum (digit p) m < 2 ^ m
   unfolding sum
   digits-lt zero = omega arith
   digits-lt (suc m) = go (p m) (digits-lt m)
@@ -72,11 +70,11 @@ module _ (p : ℕ → Bool) where
   count-none zero h = refl
   count-none (suc m) h = rw (h m) (omega (arith, count-none m h))
 
+  -- the places of words of 64, word after word
   count-zero : count p 0 ≡ 0
   unfolding count
   count-zero = refl
 
-  -- the places of words of 64, word after word
   count-words : (m : ℕ) → sum (λ w. count (λ b. p (w * 64 + b)) 64) m ≡ count p (m * 64)
   unfolding sum
   count-words zero = sym count-zero
@@ -91,37 +89,18 @@ count-below q N more =
     let g = count-none (λ d. p (N + d)) more (λ d. rw (le-ltb (N + d) N (omega arith))) in
     omega arith
 
--- the darts of word w are those below N, and no other place of it is below N
-pub in-word : (N w b : ℕ) → b < inWord N w → (b < 64) × (w * 64 + b < N)
-in-word N w b = go (leb N (w * 64)) refl (ltb (N - w * 64) 64) refl
-  where
-    go : (s : Bool) → leb N (w * 64) ≡ s → (t : Bool) → ltb (N - w * 64) 64 ≡ t → b < cond s 0 (cond t (N - w * 64) 64) → (b < 64) × (w * 64 + b < N)
-    go true e t f l = absurd (omega arith)
-    go false e true f l = let g = ltb-true (N - w * 64) 64 f in (omega arith, omega arith)
-    go false e false f l = let g = ltb-false (N - w * 64) 64 f in (omega arith, omega arith)
+module _ (N h : ℕ) (lambda : List ℕ) (l : ℕ) (words : List ℕ) where
+  -- a word has at most 64 ones
+  pub word-few : (w : ℕ) → ones (word N h lambda l words w) ≤ 64
+  unfolding word
+  word-few w = ones-le 64 (word N h lambda l words w) (digits-lt (bit N h lambda l words w) 64)
 
-pub past-word : (N w : ℕ) → (inWord N w ≤ 64) × ((b : ℕ) → inWord N w ≤ b → b < 64 → N ≤ w * 64 + b)
-past-word N w = go (leb N (w * 64)) refl (ltb (N - w * 64) 64) refl
-  where
-    go : (s : Bool) → leb N (w * 64) ≡ s → (t : Bool) → ltb (N - w * 64) 64 ≡ t → (cond s 0 (cond t (N - w * 64) 64) ≤ 64) × ((b : ℕ) → cond s 0 (cond t (N - w * 64) 64) ≤ b → b < 64 → N ≤ w * 64 + b)
-    go true e t f = let g = leb-true N (w * 64) e in (omega arith, λ b l k. omega arith)
-    go false e true f = let g = ltb-true (N - w * 64) 64 f in (omega arith, λ b l k. omega arith)
-    go false e false f = (omega arith, λ b l k. absurd (omega arith))
-
--- the ones of the words of a level
-abbrev pub wordOnes : List ℕ → ℕ → ℕ → ℕ
-wordOnes lambda l w = ones (word (length lambda) 0 lambda l [] w)
-
-pub ones-more : (lambda : List ℕ) (l w c x : ℕ) → c ≡ sum (wordOnes lambda l) w → x ≡ word (length lambda) 0 lambda l [] w → c + ones x ≡ sum (wordOnes lambda l) (w + 1)
-unfolding sum
-ones-more lambda l w c x e f = rw (add-one, f) (omega arith)
-
--- the number of ones in the 64 words is the number of survivors
-pub words-count : (lambda : List ℕ) (l : ℕ) → length lambda ≤ 4096 → sum (wordOnes lambda l) 64 ≡ survivors (length lambda) (each lambda) l
-unfolding word
-words-count lambda l h =
-    let N = length lambda in
-    let q = survives (each lambda) l in
-    let e : 64 * 64 ≡ N + (4096 - N) = omega arith in
-    sum-same (wordOnes lambda l) (λ w. count (bit N 0 lambda l [] w) 64) 64 (λ w k. ones-digits (bit N 0 lambda l [] w) 64)
-    ∙ count-words (λ d. ltb d N && q d) 64 ∙ ap (count (λ d. ltb d N && q d)) e ∙ count-below q N (4096 - N)
+  -- the ones in the words are as many as the survivors
+  pub words-count : N ≤ 4096 → sum (λ w. ones (word N h lambda l words w)) 64 ≡ survivors N (each lambda) l
+  unfolding word
+  words-count f =
+      let q = survives (each lambda) l in
+      let p : ℕ → Bool = λ d. ltb d N && q d in
+      let all : 64 * 64 ≡ N + (4096 - N) = omega arith in
+      sum-same (λ w. ones (word N h lambda l words w)) (λ w. count (bit N h lambda l words w) 64) 64 (λ w k. ones-digits (bit N h lambda l words w) 64)
+      ∙ count-words p 64 ∙ ap (count p) all ∙ count-below q N (4096 - N)

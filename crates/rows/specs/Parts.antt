@@ -1,14 +1,8 @@
--- Parts of the jobs that private functions' contracts cite. Assumes nothing: these are definitions.
-use mathlib.Core.Bool.{Bool, cond}
-use Prim.Native.Nat.{ℕ, _-_, _*_}
-use lib.Dec.{leb, ltb}
-use Rattle.maps.specs.Verdict.{Verdict, _then_}
-use Rattle.maps.specs.Sizes.{sizes, number4, number11}
+-- What a word of survivors holds. Assumes nothing: these are definitions.
+use Prim.Native.Nat.{ℕ, _+_, _*_, _≤_, _<_}
 
--- 1 2 3 4 11, with the involution asked
-abbrev pub askedOf : ℕ → ℕ → ℕ → Bool → ℕ → ℕ → Verdict
-askedOf n N h exact l i = sizes n N h then (number4 exact then number11 h l i 0)
-
--- how many darts word w has
-abbrev pub inWord : ℕ → ℕ → ℕ
-inWord N w = cond (leb N (w * 64)) 0 (cond (ltb (N - w * 64) 64) (N - w * 64) 64)
+-- word w has `many` darts: the places before are below N, those from there on are not
+pub record InWord (N w many : ℕ) : Type 0 where
+  pub few : many ≤ 64
+  pub below : (b : ℕ) → b < many → w * 64 + b < N
+  pub past : (b : ℕ) → many ≤ b → b < 64 → N ≤ w * 64 + b

@@ -1,5 +1,4 @@
 // A row, survivor words, and marks read back: jobs on lent tables. Assumes nothing.
-mod asked; // asked.rt: the tests that the jobs begin with
 pub mod counted; // counted.rt: the answer of the survivor words
 mod marks; // marks.rt: the mark row of a level
 mod parts; // parts.rt: a row of a level

@@ -8,34 +8,23 @@ ghost use Rattle.maps.specs.Folded.{marks};
 ghost use Rattle.maps.specs.Table.{each, listed};
 ghost use Rattle.maps.specs.MarksBack.{marksLent, marksLeaves};
 ghost use Rattle.answers.specs.Numbers.{verdictOf};
-use super::asked::asked;
-use super::asked::exact;
 use answers::Check;
 use answers::Dim;
 use answers::Level;
-
-// Have all three slices the length of one number for each dart?
-fn exact_rows(darts: u16, lambda: usize, delta: usize, out: usize) -> bool
-    ensures { λ r. ⌜ r ≡ (eqb lambda darts && (eqb delta darts && eqb out darts)) ⌝ }
-{
-    let due = darts as usize;
-    if lambda != due {
-        return false;
-    }
-    exact(delta, due, out, due)
-}
+use answers::Mark;
+use answers::Question;
 
 // Δ where Λ is that level, else 255; for level h 255.
-fn mark_at(h: Level, lambda: Level, delta: Dim, level: Level) -> u8
-    ensures { λ r. ⌜ r ≡ cond (ltb (level .0) (h .0) && eqb (lambda .0) (level .0)) (delta .0) stay ⌝ }
+fn mark_at(h: Level, lambda: Level, delta: Mark, level: Level) -> Mark
+    ensures { λ r. ⌜ r .0 ≡ cond (ltb (level .0) (h .0) && eqb (lambda .0) (level .0)) (delta .0) stay ⌝ }
 {
     if h.0 <= level.0 {
-        return 255;
+        return Mark(255);
     }
     if lambda.0 != level.0 {
-        return 255;
+        return Mark(255);
     }
-    delta.0
+    delta
 }
 
 // The mark row, dart by dart.
@@ -44,7 +33,8 @@ fn fill_marks(h: Level, lambda: &[u8], delta: &[u8], level: Level, out: &mut [u8
     ensures { λ _. ⌜ now (out .exit) ≡ listed (marks (h .0) (each (now (lambda .entry))) (each (now (delta .entry))) (level .0)) (length (now (out .entry))) ⌝ }
 {
     for d in 0..out.len() {
-        out[d] = mark_at(h, Level(lambda[d]), Dim(delta[d]), level);
+        let mark = mark_at(h, Level(lambda[d]), Mark(delta[d]), level);
+        out[d] = mark.0;
     }
 }
 
@@ -61,14 +51,21 @@ pub fn marks_of(
     ensures { λ r. ⌜ verdictOf r ≡ marksLent (n .0) darts (h .0) (now (lambda .entry)) (now (delta .entry)) (level .0) (now (out .entry)) ⌝ }
     ensures { λ _. ⌜ now (out .exit) ≡ marksLeaves (n .0) darts (h .0) (now (lambda .entry)) (now (delta .entry)) (level .0) (now (out .entry)) ⌝ }
 {
-    let fits = exact_rows(darts, lambda.len(), delta.len(), out.len());
-    match asked(n, darts, h, fits, level, Dim(0)) {
-        Check::Refused(r) => return Check::Refused(r),
-        Check::Accepted => {},
+    let marks_fit = answers::both(
+        answers::row_fits(darts, delta.len()),
+        answers::row_fits(darts, out.len()),
+    );
+    let fit = answers::both(answers::row_fits(darts, lambda.len()), marks_fit);
+    let question = Question {
+        level,
+        involution: Dim(0),
+        dart: 0,
+    };
+    if let Check::Refused(r) = answers::asked(n, darts, h, fit, question) {
+        return Check::Refused(r);
     }
-    match answers::marks_refusal(n, darts, h, lambda, delta, level) {
-        Check::Refused(r) => return Check::Refused(r),
-        Check::Accepted => {},
+    if let Check::Refused(r) = answers::marks_refusal(n, darts, h, lambda, delta, level) {
+        return Check::Refused(r);
     }
     fill_marks(h, lambda, delta, level, out);
     Check::Accepted

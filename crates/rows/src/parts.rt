@@ -2,11 +2,10 @@
 ghost use mathlib.Core.Path.{_≡_};
 ghost use Rattle.maps.specs.Row.{rowLent, rowPart};
 ghost use Rattle.answers.specs.Numbers.{verdictOf};
-use super::asked::asked;
-use super::asked::exact;
 use answers::Check;
 use answers::Dim;
 use answers::Level;
+use answers::Question;
 use answers::Refusal;
 
 // Is the row refused? Both slices are measured, at level 0 too.
@@ -21,12 +20,17 @@ pub fn row_refusal(
 ) -> Check
     ensures { λ r. ⌜ verdictOf r ≡ rowLent (n .0) darts (h .0) (now (base .entry)) (now (unfolded .entry)) (level .0) (involution .0) ⌝ }
 {
-    let top = n.0;
-    let due = (top as usize + 1) * darts as usize;
-    let fits = exact(base.len(), due, unfolded.len(), due);
-    match asked(n, darts, h, fits, level, involution) {
-        Check::Refused(r) => return Check::Refused(r),
-        Check::Accepted => {},
+    let fit = answers::both(
+        answers::rows_fit(n, darts, base.len()),
+        answers::rows_fit(n, darts, unfolded.len()),
+    );
+    let question = Question {
+        level,
+        involution,
+        dart: 0,
+    };
+    if let Check::Refused(r) = answers::asked(n, darts, h, fit, question) {
+        return Check::Refused(r);
     }
     if n.0 < involution.0 {
         return Check::Refused(Refusal::NoInvolution(level, involution, 0));
@@ -52,10 +56,11 @@ pub fn row<'a>(
             let i = involution.0;
             let length = darts as usize;
             let start = i as usize * length;
+            let end = start + length;
             if level.0 == 0 {
-                &base[start..start + length]
+                &base[start..end]
             } else {
-                &unfolded[start..start + length]
+                &unfolded[start..end]
             }
         },
     }

@@ -2,25 +2,25 @@
 ghost use mathlib.Core.Path.{_≡_};
 ghost use mathlib.Core.List.{[]};
 ghost use Prim.Native.Nat.{ℕ, _<_, _≤_};
+ghost use lib.Count.{ones};
 ghost use lib.ListN.{length};
 ghost use Rattle.maps.specs.Verdict.{scan};
-ghost use Rattle.maps.specs.Folded.{survivors as survivorsOf};
+ghost use Rattle.maps.specs.Count.{sum};
 ghost use Rattle.maps.specs.Table.{each, listed};
 ghost use Rattle.maps.specs.Survivors.{atLambda8, word as wordOf, survivorsLent, survivorCount, survivorWords};
 ghost use Rattle.answers.specs.Numbers.{verdictOf};
 ghost use Rattle.rows.specs.Answers.{verdictOfSurvivors, countOfSurvivors};
-ghost use Rattle.rows.specs.Parts.{inWord};
-use super::asked::asked;
-use super::asked::exact;
+ghost use Rattle.rows.specs.Parts.{InWord};
 use super::counted::Survivors;
 use answers::Check;
 use answers::Dim;
 use answers::Level;
+use answers::Question;
 use answers::Refusal;
 
-// A number that no Λ is above: the largest, found without a way out of the loop, so that it is found many darts at a time.
-fn largest(lambda: &[u8]) -> u8
-    ensures { λ r. ⌜ ((d : ℕ) → d < length (now (lambda .entry)) → each (now (lambda .entry)) d ≤ r) ⌝ }
+// A level that no Λ is above: the largest, found without a way out of the loop, so that it is found many darts at a time.
+fn largest(lambda: &[u8]) -> Level
+    ensures { λ r. ⌜ ((d : ℕ) → d < length (now (lambda .entry)) → each (now (lambda .entry)) d ≤ r .0) ⌝ }
 {
     let mut most: u8 = 0;
     for d in 0..lambda.len() {
@@ -28,7 +28,7 @@ fn largest(lambda: &[u8]) -> u8
             most = lambda[d];
         }
     }
-    most
+    Level(most)
 }
 
 // Number 8 of Λ alone, over all darts, with the level asked.
@@ -36,7 +36,8 @@ fn lambda_tested(darts: u16, h: Level, lambda: &[u8], level: Level) -> Check
     requires { ⌜ length (now lambda) ≡ darts ⌝ }
     ensures { λ r. ⌜ verdictOf r ≡ scan darts (atLambda8 darts (h .0) (now (lambda .entry)) (level .0) []) ⌝ }
 {
-    if largest(lambda) <= h.0 {
+    let most = largest(lambda);
+    if most.0 <= h.0 {
         return Check::Accepted;
     }
     first_above(darts, h, lambda, level)
@@ -58,7 +59,7 @@ fn first_above(darts: u16, h: Level, lambda: &[u8], level: Level) -> Check
 // How many darts word w has: 64, fewer in the last, none past it.
 fn in_word(darts: usize, w: usize) -> usize
     requires { ⌜ w < 64 ⌝ }
-    ensures { λ r. ⌜ r ≡ inWord darts w ⌝ }
+    ensures { λ r. ⌜ InWord darts w r ⌝ }
 {
     let first = w * 64;
     if darts <= first {
@@ -89,7 +90,7 @@ fn word(lambda: &[u8], level: Level, w: usize) -> u64
 // All 64 words, and the number of ones in them.
 fn fill_words(lambda: &[u8], level: Level, words: &mut [u64]) -> u32
     requires { ⌜ (length (now lambda) ≤ 4096) × (length (now words) ≡ 64) ⌝ }
-    ensures { λ r. ⌜ r ≡ survivorsOf (length (now (lambda .entry))) (each (now (lambda .entry))) (level .0) ⌝ }
+    ensures { λ r. ⌜ r ≡ sum (λ w. ones (wordOf (length (now (lambda .entry))) 0 (now (lambda .entry)) (level .0) [] w)) 64 ⌝ }
     ensures { λ _. ⌜ now (words .exit) ≡ listed (wordOf (length (now (lambda .entry))) 0 (now (lambda .entry)) (level .0) []) 64 ⌝ }
 {
     let mut count: u32 = 0;
@@ -107,15 +108,17 @@ pub fn survivors(darts: u16, h: Level, lambda: &[u8], level: Level, words: &mut 
     ensures { λ r. ⌜ countOfSurvivors r ≡ survivorCount darts (h .0) (now (lambda .entry)) (level .0) (now (words .entry)) ⌝ }
     ensures { λ _. ⌜ now (words .exit) ≡ survivorWords darts (h .0) (now (lambda .entry)) (level .0) (now (words .entry)) ⌝ }
 {
-    let due = darts as usize;
-    let fits = exact(lambda.len(), due, words.len(), 64);
-    match asked(Dim(1), darts, h, fits, level, Dim(0)) {
-        Check::Refused(r) => return Survivors::Refused(r),
-        Check::Accepted => {},
+    let fit = answers::both(answers::row_fits(darts, lambda.len()), words.len() == 64);
+    let question = Question {
+        level,
+        involution: Dim(0),
+        dart: 0,
+    };
+    if let Check::Refused(r) = answers::asked(Dim(1), darts, h, fit, question) {
+        return Survivors::Refused(r);
     }
-    match lambda_tested(darts, h, lambda, level) {
-        Check::Refused(r) => return Survivors::Refused(r),
-        Check::Accepted => {},
+    if let Check::Refused(r) = lambda_tested(darts, h, lambda, level) {
+        return Survivors::Refused(r);
     }
     let count = fill_words(lambda, level, words);
     Survivors::Counted(count)

@@ -8,9 +8,9 @@ use borrow.Author.Tests.{ltb-false}
 use Rattle.maps.specs.Verdict.{accepted, _then_}
 use Rattle.maps.specs.Sizes.{sizes, number4, number11, number13, hasLength}
 use Rattle.maps.specs.Row.{rowLent}
-use Rattle.facts.proofs.Tables.{table-size}
-use Rattle.facts.proofs.Verdicts.{then-accepted, when-accepted}
-use Rattle.facts.proofs.Sizes.{sizes-sized}
+use Rattle.laws.proofs.Tables.{table-size}
+use Rattle.laws.proofs.Verdicts.{then-accepted, when-accepted}
+use Rattle.laws.proofs.Sizes.{sizes-sized}
 
 -- the start of an accepted row is a small number
 pub row-start : (n N h : ℕ) (base unfolded : List ℕ) (l i : ℕ) → rowLent n N h base unfolded l i ≡ accepted → i * N ≤ 16384

@@ -20,7 +20,8 @@ ghost use Rattle.maps.specs.MarkCells.{markLent, MarkLeaves};
 ghost use Rattle.maps.specs.Record.{takeRows, takeLambda, takeDelta};
 ghost use Rattle.answers.specs.Numbers.{refusalOf, verdictOf};
 ghost use Rattle.checking.specs.Answers.{addedOf, heightOf};
-ghost use Rattle.reading.specs.Answers.{valueOf, checkOf, totalOf};
+ghost use Rattle.questions.specs.Answers.{valueOf};
+ghost use Rattle.reading.specs.Answers.{checkOf, totalOf};
 ghost use Rattle.rows.specs.Answers.{verdictOfSurvivors, countOfSurvivors};
 ghost use Rattle.records.specs.Answers.{takenOf, taken};
 ghost use Rattle.zompelgors.specs.Flat.{refusalFor, saidBy, readingFor, countFor, heightFor, partFor, recordFor, versionFor};
@@ -110,19 +111,19 @@ fn checked(check: Check) -> ZgRefusal
 }
 
 // The answer of a reading.
-fn read_as(answer: reading::Reading) -> ZgReading
+fn read_as(answer: questions::Reading) -> ZgReading
     ensures { λ r. ⌜ r ≡ readingFor (valueOf answer) ⌝ }
 {
     match answer {
-        reading::Reading::Found(neighbour, count) => {
+        questions::Reading::Found(found) => {
             let refusal = accepts();
             ZgReading {
                 refusal,
-                count,
-                neighbour,
+                count: found.count,
+                neighbour: found.dart,
             }
         },
-        reading::Reading::Refused(why) => {
+        questions::Reading::Refused(why) => {
             let refusal = refused(why);
             ZgReading {
                 refusal,

@@ -1,11 +1,12 @@
--- `bases::largest` meets its contract: no entry passed is above. Assumes nothing.
+-- `bases::largest` meets its contract. The invariant: no entry passed is above; the measure is the entries that are left. Assumes nothing.
 use mathlib.Core.Logic.{⊎-elim}
 use Prim.Native.Nat.{ℕ, _-_, _≤_, _<_, zero-le}
 use native.Mathlib.Omega.{arith}
 use denote.Ref.{now}
 use lib.ListN.{getD}
-use borrow.Author.Count.{below-none, below-more}
+use borrow.Author.Count.{below-none}
 use borrow.Author.Needs.{needs}
+use Rattle.laws.proofs.Tables.{most-more}
 use Rattle.bases.proofs.largest.Statement.{statement}
 use Rattle.bases.proofs.largest.Tie as tie
 
@@ -35,7 +36,7 @@ loop-again c =
     let l = c .before .before .before .loop in
     let e = getD (c .before .before .before .before .args .table .now) (l .k) 0 in
     let h : (l .most ≤ c .if1 .most) × (e ≤ c .if1 .most) = ⊎-elim (λ w. (omega arith, omega arith)) (λ w. (omega arith, omega arith)) (c .if1 .came) in
-    (omega arith, below-more _ _ (λ x k. omega (arith, l .inv .1 x k, h .0)) (h .1))
+    (omega arith, most-more (c .before .before .before .before .args .table .now) (l .k) (l .most) (c .if1 .most) (l .inv .1) (h .0) (h .1))
 
 returns : tie.Need-returns Inv-loop μ-loop
 returns c k l = c .before .loop .inv .1 k (omega arith)

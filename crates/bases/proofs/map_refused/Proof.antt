@@ -14,7 +14,7 @@ five : (c : tie.After-enum-told) → let a = c .before .before .before .before .
 five c = sym (c .before .before .first-stray .ensures) ∙ ap (refusedAt 5) (c .enum-told .given .1)
 
 six : (c : tie.After-enum-told2) → let a = c .before .before .before .before .before .before .before .args in check6In (a .explicit) (a .n .0) (a .darts) (now (a .table)) ≡ accepted
-six c = sym (c .before .before .number6 .ensures) ∙ ap (refusedAt 6) (c .enum-told2 .given .1)
+six c = sym (c .before .before .sought .ensures) ∙ ap (refusedAt 6) (c .enum-told2 .given .1)
 
 first-stray-requires : tie.Need-first-stray-requires
 first-stray-requires c κs = search needs
@@ -29,15 +29,15 @@ returns c = rw (sym (c .before .before .before .first-stray .ensures) ∙ ap (re
 enum-told : tie.Need-enum-told
 enum-told c = search needs
 
-number6-requires : tie.Need-number6-requires
-number6-requires c κs = (c .before .before .before .before .pre, five c)
+sought-requires : tie.Need-sought-requires
+sought-requires c κs = (c .before .before .before .before .pre, λ e. five c)
 
 enum-known-i-2 : tie.Need-enum-known-i-2
 enum-known-i-2 c = search needs
 
 returns-2 : tie.Need-returns-2
 unfolding checkMap
-returns-2 c = rw (five (c .before .before .before .before), sym (c .before .before .before .number6 .ensures) ∙ ap (refusedAt 6) (c .before .i2 .given .1))
+returns-2 c = rw (five (c .before .before .before .before), sym (c .before .before .before .sought .ensures) ∙ ap (refusedAt 6) (c .before .i2 .given .1))
 
 enum-told-2 : tie.Need-enum-told-2
 enum-told-2 c = search needs
@@ -67,7 +67,7 @@ map-refused-spec =
     enum-known-i
     returns
     enum-told
-    number6-requires
+    sought-requires
     enum-known-i-2
     returns-2
     enum-told-2

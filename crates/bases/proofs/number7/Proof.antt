@@ -1,4 +1,4 @@
--- `bases::number7` meets its contract. Each loop's invariant says that no place before is refused. Assumes nothing.
+-- `bases::number7` meets its contract. Each loop's invariant says that no place before is refused; the measures are the darts and the rows that are left. Assumes nothing.
 use mathlib.Core.Path.{_≡_, refl, sym, ap, _∙_}
 use mathlib.Core.Bool.{true, false}
 use Prim.Native.Nat.{ℕ, _+_, _-_, _≤_, _<_, zero-le}
@@ -52,10 +52,13 @@ loop2-holds c = let v = c .before .loop .inv in (zero-le, v .0, v .1, c .loop-te
 
 not-commuting-requires :
     tie.Need-not-commuting-requires Inv-loop2 μ-loop2 Inv-loop μ-loop Inv-rows μ-rows
-not-commuting-requires c κs = let a = c .before .before .before .before .before .before .before .before .before .args in
-    let p = c .before .before .before .before .before .before .before .before .before .pre in
-    let i = c .before .before .before .before .before .before .rows .i in
-    let j = c .before .before .before .loop .j in
+not-commuting-requires c κs =
+    let loop = c .before .before .before in
+    let s = loop .before .before .before .before .before .before in
+    let a = s .args in
+    let p = s .pre in
+    let i = loop .before .before .before .rows .i in
+    let j = loop .loop .j in
     let d = c .before .loop2 .d in
     let row : (k : ℕ) → k ≤ a .n .0 → Row (a .darts) (now (a .table)) k = λ k l. rows-row (a .n .0) (a .darts) k (now (a .table)) (p .0) l in
     let dart : (k : ℕ) → k ≤ a .n .0 → presentIf (a .explicit) (a .darts) (now (a .table)) d ≡ true → entry (a .darts) (now (a .table)) k d < a .darts = λ k l. inside (a .explicit) (a .n .0) (a .darts) (now (a .table)) (p .1) k d l (c .loop2-test .taken) in
@@ -77,7 +80,11 @@ loop-less : tie.Need-loop-less Inv-loop2 μ-loop2 Inv-loop μ-loop Inv-rows μ-r
 loop-less c = search needs
 
 loop-again : tie.Need-loop-again Inv-loop2 μ-loop2 Inv-loop μ-loop Inv-rows μ-rows
-loop-again c = let v = c .before .loop2 .inv in let e : c .before .loop2 .d ≡ c .before .before .before .before .before .before .before .before .before .args .darts = omega arith in (v .1, omega arith, v .4, below-more _ _ (v .5) (λ k l. v .6 k (omega arith)), v .7)
+loop-again c =
+    let v = c .before .loop2 .inv in
+    let loop = c .before .before .before in
+    let e : c .before .loop2 .d ≡ loop .before .before .before .before .before .before .args .darts = omega arith in
+    (v .1, omega arith, v .4, below-more _ _ (v .5) (λ k l. v .6 k (omega arith)), v .7)
 
 add-i : tie.Need-add-i Inv-loop2 μ-loop2 Inv-loop μ-loop Inv-rows μ-rows
 add-i c = search needs
@@ -92,7 +99,12 @@ returns : tie.Need-returns Inv-loop2 μ-loop2 Inv-loop μ-loop Inv-rows μ-rows
 returns c = let a = c .before .before .before .before .args in let v = c .before .rows .inv in ap (refusedAt 7) (v .2) ∙ sym (none7 (a .explicit) (a .n .0) (a .darts) (now (a .table)) (λ i li j lj. v .1 i (omega arith) j (omega arith)))
 
 returns-2 : tie.Need-returns-2 Inv-loop2 μ-loop2 Inv-loop μ-loop Inv-rows μ-rows
-returns-2 c = let a = c .before .before .before .before .before .before .before .before .before .before .before .args in let v = c .before .before .before .loop2 .inv in sym (first7 (a .explicit) (a .n .0) (a .darts) (now (a .table)) (c .before .before .before .before .before .before .before .before .rows .i) (c .before .before .before .before .before .loop .j) (c .before .before .before .loop2 .d) (omega arith) (omega arith) (c .before .before .loop2-test .taken) (λ k lk f lf. v .4 k lk f (omega arith)) (v .5) (v .6) (sym (c .before .not-commuting .ensures) ∙ c .if1 .taken))
+returns-2 c =
+    let l = c .before .before .before .loop2 in
+    let loop = c .before .before .before .before .before in
+    let rows = loop .before .before .before in
+    let a = rows .before .before .before .args in
+    sym (first7 (a .explicit) (a .n .0) (a .darts) (now (a .table)) (rows .rows .i) (loop .loop .j) (l .d) (omega arith) (omega arith) (c .before .before .loop2-test .taken) (λ k lk f lf. l .inv .4 k lk f (omega arith)) (l .inv .5) (l .inv .6) (sym (c .before .not-commuting .ensures) ∙ c .if1 .taken))
 
 pub number7-spec : {M : Type 1} → statement M
 number7-spec =

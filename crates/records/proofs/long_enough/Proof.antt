@@ -1,17 +1,25 @@
 -- `records::long_enough` meets its contract. Assumes nothing.
+use mathlib.Core.Path.{ap, ap₂, _∙_}
+use mathlib.Core.Bool.{_&&_}
+use Prim.Native.Nat.{ℕ, _+_, _*_, _≤_}
+use lib.Dec.{leb}
+use native.Mathlib.Nat.{mul-le-mul-right}
+use native.Mathlib.Numerals.{add-one}
 use native.Mathlib.Omega.{arith}
-use borrow.Author.Tests.{le-leb, lt-leb}
+use borrow.Author.Needs.{needs}
 use Rattle.records.proofs.long_enough.Statement.{statement}
 use Rattle.records.proofs.long_enough.Tie as tie
 
+mul-all : tie.Need-mul-all
+mul-all c =
+    let a = c .before .args in
+    let m : (a .n .0 + 1) * a .darts ≤ 256 * a .darts = mul-le-mul-right (a .darts) (omega arith) in
+    omega arith
+
 returns : tie.Need-returns
-returns c = let a = c .before .args in simp (lt-leb (a .all) (a .rows) (omega arith))
-
-returns-2 : tie.Need-returns-2
-returns-2 c = let a = c .before .before .args in simp (le-leb (a .all) (a .rows) (omega arith), lt-leb (a .darts) (a .lambda) (omega arith))
-
-returns-3 : tie.Need-returns-3
-returns-3 c = let a = c .before .before .args in simp (le-leb (a .all) (a .rows) (omega arith), le-leb (a .darts) (a .lambda) (omega arith))
+returns c =
+    let a = c .before .before .before .args in
+    c .both2 .ensures ∙ ap₂ _&&_ (ap (λ (k : ℕ). leb (k * a .darts) (a .rows)) (add-one (a .n .0))) (c .before .both .ensures)
 
 pub long-enough-spec : {M : Type 1} → statement M
-long-enough-spec = tie.close (tie.spec returns returns-2 returns-3)
+long-enough-spec = tie.close (tie.spec (λ c. search needs) (λ c. search needs) mul-all (λ c κs. search needs) (λ c κs. search needs) returns)

@@ -1,95 +1,103 @@
--- `records::take` meets its contract. Assumes nothing.
-use mathlib.Core.Path.{sym, ap, _∙_}
+-- `records::take` meets its contract: nothing is copied before all is tested. Assumes nothing.
+use mathlib.Core.Bool.{Bool, _&&_}
+use mathlib.Core.Path.{_≡_, refl, sym, ap₂, _∙_}
+use Prim.Native.Nat.{ℕ, suc, _+_, _*_}
+use lib.Dec.{eqb, leb}
+use lib.ListN.{length}
 use denote.Ref.{now}
 use borrow.Author.Needs.{needs}
-use Rattle.answers.specs.Numbers.{verdictOf}
-use Rattle.records.specs.Answers.{takenOf}
-use Rattle.records.proofs.Whole.{Told, header-told, header-refused, rest-refused, rest-room, rest-accepted}
+use Rattle.maps.specs.Verdict.{accepted, _then_}
+use Rattle.maps.specs.Sizes.{sizes}
+use Rattle.maps.specs.Record.{byte, field}
+use Rattle.answers.proofs.Refusals.{told, refused-first, refused-second}
+use Rattle.records.proofs.Whole.{Told, left-alone, lent-is, small, room-for, all-taken}
 use Rattle.records.proofs.take.Statement.{statement}
 use Rattle.records.proofs.take.Tie as tie
 
--- what the header and the first row's tag told
-told : (c : tie.After-one-byte) → let g = c .before .before .before .n .given in Told (now (c .before .before .before .before .before .before .before .before .before .before .args .bytes)) (g .0 .0 .0) (g .0 .1 .0 .0) (g .0 .1 .1 .0) (c .one-byte .result)
-told c =
-    let g = c .before .before .before .n .given in
-    header-told (now (c .before .before .before .before .before .before .before .before .before .before .args .bytes)) (g .0 .0 .0) (g .0 .1 .0 .0) (g .0 .1 .1 .0) (c .before .first-tag .result) (c .one-byte .result) (ap takenOf (sym (g .1)) ∙ c .before .before .before .before .before .header .ensures) (c .before .first-tag .ensures) (c .one-byte .ensures)
+-- where the job begins
+abbrev start : tie.After-header → tie.Start
+start s = s .before .before .before .before .before .before .before .before .before .before
 
-header-requires : tie.Need-header-requires
-header-requires c κs = search needs
+-- what was read: n, h and N
+abbrev n-of : tie.After-header → ℕ
+n-of s = s .before .before .before .before .before .byte-at .result
 
-enum-known-r : tie.Need-enum-known-r
-enum-known-r c = search needs
+abbrev h-of : tie.After-header → ℕ
+h-of s = s .before .before .before .before .byte-at2 .result
 
-enum-known-n : tie.Need-enum-known-n
-enum-known-n c = search needs
+abbrev N-of : tie.After-header → ℕ
+N-of s = s .before .two-bytes .result
 
-first-tag-requires : tie.Need-first-tag-requires
-first-tag-requires c κs = search needs
+told-at : (s : tie.After-header) (one enough : Bool) → let a = start s .args in one ≡ (eqb (byte (now (a .bytes)) 7) 0x20 && leb (N-of s) 256)
+    → enough ≡ (leb (suc (n-of s) * N-of s) (length (now (a .rows))) && (leb (N-of s) (length (now (a .lambda))) && leb (N-of s) (length (now (a .delta)))))
+    → Told (now (a .bytes)) (now (a .rows)) (now (a .lambda)) (now (a .delta)) (n-of s) (h-of s) (N-of s) one enough
+told-at s one enough e f =
+    record {
+      dimension = s .before .before .before .before .before .byte-at .ensures;
+      height = s .before .before .before .before .byte-at2 .ensures;
+      darts = s .before .two-bytes .ensures ∙ ap₂ (λ (x y : ℕ). x + 256 * y) (s .before .before .before .byte-at3 .ensures) (s .before .before .byte-at4 .ensures);
+      kind = e;
+      fit = f;
+    }
 
-one-byte-requires : tie.Need-one-byte-requires
-one-byte-requires c κs = search needs
+-- all that was read, and that the header is accepted
+all-told : (c : tie.After-long-enough) → let s = c .before .before .before .before in let a = start s .args in Told (now (a .bytes)) (now (a .rows)) (now (a .lambda)) (now (a .delta)) (n-of s) (h-of s) (N-of s) (c .before .one-byte .result) (c .long-enough .result)
+all-told c = told-at (c .before .before .before .before) _ _ (c .before .one-byte .ensures) (c .long-enough .ensures)
 
-rest-requires : tie.Need-rest-requires
-rest-requires c κs = let t = told c in (t .sized .dimension, t .sized .darts)
-
-enum-known-r-2 : tie.Need-enum-known-r-2
-enum-known-r-2 c = search needs
-
-enum-told : tie.Need-enum-told
-enum-told c = search needs
-
-copy-all-requires : tie.Need-copy-all-requires
-copy-all-requires c κs =
-    let a = c .before .before .before .before .before .before .before .before .before .before .before .before .before .before .before .before .args in
-    let t = told (c .before .before .before .before .before .before) in
-    rest-room (now (a .bytes)) (now (a .rows)) (now (a .lambda)) (now (a .delta)) _ _ _ _ t (sym (c .before .before .before .before .before .rest .ensures) ∙ ap verdictOf (c .before .before .before .enum-told .given .1))
+header-fine : (c : tie.After-long-enough) → let s = c .before .before .before .before in accepted ≡ field (now (start s .args .bytes)) 0 0x01 4 then sizes (n-of s) (N-of s) (h-of s)
+header-fine c = told (c .before .before .before .before .header .ensures) (c .before .before .enum-told .given .1)
 
 returns : tie.Need-returns
 returns c =
-    let a = c .before .before .before .before .before .before .before .before .args in
+    let s = c .before .before .before in
     let r = c .before .r .given in
-    let y = header-refused (now (a .bytes)) (now (a .rows)) (now (a .lambda)) (now (a .delta)) (r .0 .0) (ap takenOf (sym (r .1)) ∙ c .before .before .before .header .ensures) in
-    (y .0, (y .1, (y .2, y .3)))
+    left-alone _ _ _ _ (r .0 .0) (refused-first _ _ _ (lent-is (told-at s _ _ refl refl)) (r .0 .0) (told (s .header .ensures) (r .1)))
+
+rest-requires : tie.Need-rest-requires
+rest-requires c κs =
+    let m = c .before .before in
+    let z = small (told-at (m .before .before) _ _ refl refl) (sym (told (m .before .before .header .ensures) (m .enum-told .given .1))) in
+    (z .dimension, z .darts)
 
 returns-2 : tie.Need-returns-2
 returns-2 c =
-    let a = c .before .before .before .before .before .before .before .before .before .before .before .before .before .before .args in
+    let m = c .before .before .before in
     let r = c .before .r2 .given in
-    let y = rest-refused (now (a .bytes)) (now (a .rows)) (now (a .lambda)) (now (a .delta)) _ _ _ _ (told (c .before .before .before .before)) (r .0 .0) (ap verdictOf (sym (r .1)) ∙ c .before .before .before .rest .ensures) in
-    (y .0, (y .1, (y .2, y .3)))
+    left-alone _ _ _ _ (r .0 .0) (refused-second _ _ _ (lent-is (all-told (m .before))) (r .0 .0) (header-fine (m .before)) (told (m .rest .ensures) (r .1)))
 
-same-length : tie.Need-same-length
-same-length c = search needs
-
-same-length-2 : tie.Need-same-length-2
-same-length-2 c = search needs
-
-same-length-3 : tie.Need-same-length-3
-same-length-3 c = search needs
+copy-all-requires : tie.Need-copy-all-requires
+copy-all-requires c κs =
+    let m = c .before .before .before .before .before in
+    room-for (all-told (m .before)) (sym (header-fine (m .before))) (sym (told (m .rest .ensures) (c .before .before .before .enum-told2 .given .1)))
 
 returns-3 : tie.Need-returns-3
 returns-3 c =
-    let a = c .before .before .before .before .before .before .before .before .before .before .before .before .before .before .before .before .before .before .before .before .before .before .before .args in
-    let x = c .before .before .before .before .before .before .copy-all .ensures in
-    let y = rest-accepted (now (a .bytes)) (now (a .rows)) (now (a .lambda)) (now (a .delta)) _ _ _ _ (told (c .before .before .before .before .before .before .before .before .before .before .before .before .before)) (sym (c .before .before .before .before .before .before .before .before .before .before .before .before .rest .ensures) ∙ ap verdictOf (c .before .before .before .before .before .before .before .before .before .before .enum-told .given .1)) in
-    (y .0, (x .0 ∙ y .1, (x .1 .0 ∙ y .2, x .1 .1 ∙ y .3)))
+    let k = c .before .before .before .before .before .before in
+    let m = k .before .before .before .before .before .before in
+    let laid = k .copy-all .ensures in
+    all-taken (all-told (m .before)) (sym (header-fine (m .before))) (sym (told (m .rest .ensures) (k .before .before .before .before .enum-told2 .given .1))) (laid .0) (laid .1 .0) (laid .1 .1)
 
 pub take-spec : {M : Type 1} → statement M
 take-spec =
     tie.close
     (tie.spec
-    header-requires
-    enum-known-r
-    enum-known-n
-    first-tag-requires
-    one-byte-requires
-    rest-requires
-    enum-known-r-2
-    enum-told
-    copy-all-requires
+    (λ c κs. search needs)
+    (λ c κs. search needs)
+    (λ c κs. search needs)
+    (λ c κs. search needs)
+    (λ c κs. search needs)
+    (λ c κs. search needs)
+    (λ c. search needs)
     returns
+    (λ c. search needs)
+    (λ c κs. search needs)
+    (λ c κs. search needs)
+    rest-requires
+    (λ c. search needs)
     returns-2
-    same-length
-    same-length-2
-    same-length-3
+    (λ c. search needs)
+    copy-all-requires
+    (λ c. search needs)
+    (λ c. search needs)
+    (λ c. search needs)
     returns-3)

@@ -6,17 +6,18 @@ use lib.ListN.{length}
 use denote.Ref.{now}
 use borrow.Author.Tests.{lt-ltb, le-ltb, not-true, not-false}
 use Rattle.maps.specs.Table.{entry}
-use Rattle.cells.proofs.Explicit.{level-entry, level-inside}
+use Rattle.answers.proofs.Rows.{rows-entry}
+use Rattle.cells.proofs.Explicit.{level-valid}
 use borrow.Author.Needs.{needs}
 use Rattle.cells.proofs.mark.fails.Statement.{statement}
 use Rattle.cells.proofs.mark.fails.Tie as tie
 
 -- the entries of the level, and the neighbours of a dart present
 entries : (c : tie.Else1) → let a = c .before .before .before .before .args in (i d : ℕ) → i ≤ a .n .0 → d < a .darts → (i * a .darts + d < length (now (a .table))) × (length (now (a .table)) ≤ 20480)
-entries c = let s = c .before .before .before .before in level-entry (s .args .n .0) (s .args .darts) (now (s .args .table)) (s .pre .0)
+entries c = let s = c .before .before .before .before in rows-entry (s .args .n .0) (s .args .darts) (now (s .args .table)) (s .pre .0 .rows)
 
 inside : (c : tie.Else2) → let a = c .before .before .before .before .before .before .args in (j : ℕ) → j ≤ a .n .0 → entry (a .darts) (now (a .table)) j (a .d) < a .darts
-inside c = let s = c .before .before .before .before .before .before in level-inside (s .args .n .0) (s .args .darts) (now (s .args .table)) (s .pre .0) (s .args .d) (s .pre .2) (sym (c .before .there .ensures) ∙ not-false (c .before .there .result) (c .if2 .left))
+inside c = let s = c .before .before .before .before .before .before in λ j lj. level-valid (s .args .n .0) (s .args .darts) (now (s .args .table)) (s .pre .0) .inside j (s .args .d) lj (s .pre .2, sym (c .before .there .ensures) ∙ not-false (c .before .there .result) (c .if2 .left)) .0
 
 add-if1 : tie.Need-add-if1
 add-if1 c = search needs
@@ -30,23 +31,37 @@ there-requires c κs = let s = c .before .before .before .before in entries c 0 
 returns-2 : tie.Need-returns-2
 returns-2 c = simp (lt-ltb _ _ (c .before .before .if1 .left), sym (c .before .there .ensures) ∙ not-true (c .before .there .result) (c .if2 .taken))
 
-add-t10 : tie.Need-add-t10
-add-t10 c = search needs
+add-t12 : tie.Need-add-t12
+add-t12 c = search needs
 
-add-t10-2 : tie.Need-add-t10-2
-add-t10-2 c = search needs
+add-t12-2 : tie.Need-add-t12-2
+add-t12-2 c = search needs
 
 at-requires : tie.Need-at-requires
-at-requires c κs = let s = c .before .before .before .before .before .before .before .before in entries (c .before .before .before .before) (s .args .dimension .0 + 1) (s .args .d) (omega arith) (s .pre .2)
+at-requires c κs =
+    let below = c .before .before .before .before in
+    let s = below .before .before .before .before in
+    entries below (s .args .dimension .0 + 1) (s .args .d) (omega arith) (s .pre .2)
 
 at-requires-2 : tie.Need-at-requires-2
-at-requires-2 c κs = let s = c .before .before .before .before .before .before .before .before .before in entries (c .before .before .before .before .before) (s .args .dimension .0 + 2) (s .args .d) (omega arith) (s .pre .2)
+at-requires-2 c κs =
+    let below = c .before .before .before .before .before in
+    let s = below .before .before .before .before in
+    entries below (s .args .dimension .0 + 2) (s .args .d) (omega arith) (s .pre .2)
 
 at-requires-3 : tie.Need-at-requires-3
-at-requires-3 c κs = let s = c .before .before .before .before .before .before .before .before .before .before in let δ = s .args .dimension .0 in entries (c .before .before .before .before .before .before) (δ + 2) (c .before .at .result) (omega arith) (rw (c .before .at .ensures) (inside (c .before .before .before .before) (δ + 1) (omega arith)))
+at-requires-3 c κs =
+    let there = c .before .before .before .before in
+    let below = there .before .before in
+    let δ = below .before .before .before .before .args .dimension .0 in
+    entries below (δ + 2) (c .before .at .result) (omega arith) (rw (c .before .at .ensures) (inside there (δ + 1) (omega arith)))
 
 at-requires-4 : tie.Need-at-requires-4
-at-requires-4 c κs = let s = c .before .before .before .before .before .before .before .before .before .before .before in let δ = s .args .dimension .0 in entries (c .before .before .before .before .before .before .before) (δ + 1) (c .before .at2 .result) (omega arith) (rw (c .before .at2 .ensures) (inside (c .before .before .before .before .before) (δ + 2) (omega arith)))
+at-requires-4 c κs =
+    let there = c .before .before .before .before .before in
+    let below = there .before .before in
+    let δ = below .before .before .before .before .args .dimension .0 in
+    entries below (δ + 1) (c .before .at2 .result) (omega arith) (rw (c .before .at2 .ensures) (inside there (δ + 2) (omega arith)))
 
 returns-3 : tie.Need-returns-3
 returns-3 c = let e = c .before .before .before .before .before .before in simp (lt-ltb _ _ (e .before .before .if1 .left), sym (e .before .there .ensures) ∙ not-false (e .before .there .result) (e .if2 .left), c .at4 .ensures, c .before .at3 .ensures, c .before .before .at2 .ensures, c .before .before .before .at .ensures)
@@ -59,8 +74,8 @@ fails-spec =
     returns
     there-requires
     returns-2
-    add-t10
-    add-t10-2
+    add-t12
+    add-t12-2
     at-requires
     at-requires-2
     at-requires-3

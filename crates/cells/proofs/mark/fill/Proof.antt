@@ -1,12 +1,12 @@
--- `cells::mark::fill` meets its contract: the darts passed have their marks. Assumes nothing.
+-- `cells::mark::fill` meets its contract. The invariant: the darts passed have their marks; the measure is the darts that are left. Assumes nothing.
 use mathlib.Core.Path.{_≡_, refl, _∙_}
 use Prim.Native.Nat.{ℕ, _-_, _≤_, _<_, zero-le}
 use native.Mathlib.Omega.{arith}
 use lib.ListN.{length, getD, length-set}
 use denote.Ref.{now}
 use borrow.Author.Needs.{needs}
-use Rattle.facts.proofs.Tables.{listed-of, set-below}
-use Rattle.cells.specs.Orbits.{has}
+use Rattle.laws.proofs.Tables.{listed-of, set-below}
+use Rattle.orbits.specs.Search.{has}
 use Rattle.cells.specs.Marked.{marksOf}
 use Rattle.cells.proofs.mark.fill.Statement.{statement}
 use Rattle.cells.proofs.mark.fill.Tie as tie
@@ -28,7 +28,7 @@ element-copy-out-mark-at : tie.Need-element-copy-out-mark-at Inv-loop μ-loop
 element-copy-out-mark-at c = search needs
 
 mark-at-requires : tie.Need-mark-at-requires Inv-loop μ-loop
-mark-at-requires c κs = let p = c .before .before .before .before .before .pre in (omega arith, p .2)
+mark-at-requires c κs = c .before .before .before .before .before .pre .1 (c .before .before .loop .d) (c .before .loop-test .taken)
 
 slice-write-out : tie.Need-slice-write-out Inv-loop μ-loop
 slice-write-out c = search needs
@@ -44,7 +44,7 @@ loop-again c =
     let a = c .before .before .before .before .before .before .args in
     let l = c .before .before .before .loop in
     let f = marksOf (a .darts) (now (a .table)) (a .dimension .0) (has (now (a .reached))) in
-    (omega arith, simp length-set (l .inv .1), set-below f (l .out) (l .d) (c .mark-at .result) (omega arith) (l .inv .2) (c .mark-at .ensures))
+    (omega arith, simp length-set (l .inv .1), set-below f (l .out) (l .d) (c .mark-at .result .0) (omega arith) (l .inv .2) (c .mark-at .ensures))
 
 same-length : tie.Need-same-length Inv-loop μ-loop
 same-length c = c .before .loop .inv .1
@@ -54,7 +54,7 @@ returns c =
     let s = c .before .before .before .before in
     let a = s .args in
     let l = c .before .loop in
-    listed-of (marksOf (a .darts) (now (a .table)) (a .dimension .0) (has (now (a .reached)))) (a .darts) (l .out) (l .inv .1 ∙ s .pre .3) (λ k lt. l .inv .2 k (omega arith))
+    listed-of (marksOf (a .darts) (now (a .table)) (a .dimension .0) (has (now (a .reached)))) (a .darts) (l .out) (l .inv .1 ∙ s .pre .2) (λ k lt. l .inv .2 k (omega arith))
 
 pub fill-spec : {M : Type 1} → statement M
 fill-spec =

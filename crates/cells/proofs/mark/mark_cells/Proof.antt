@@ -1,67 +1,64 @@
 -- `cells::mark_cells` meets its contract: all is tested before a mark is written. Assumes nothing.
 use mathlib.Core.Path.{_≡_, sym, ap, _∙_}
-use native.Mathlib.Omega.{arith}
 use denote.Ref.{now}
 use Rattle.maps.specs.Verdict.{accepted}
-use Rattle.maps.specs.Sizes.{sizes}
-use Rattle.maps.specs.CheckBase.{checkExplicit}
 use Rattle.maps.specs.MarkCells.{markLent}
+use Rattle.answers.specs.Lent.{lentOf}
 use Rattle.answers.specs.Numbers.{verdictOf}
-use Rattle.answers.specs.declared.Refusal.the-variants.{Length, NoInvolution}
-use Rattle.cells.proofs.Lent.{table-fits, refused-sizes, refusal-leaves, refused-table, refused-out, refused-dimension, tests-explicit, explicit-level}
+use Rattle.answers.specs.declared.Refusal.the-variants.{NoInvolution}
+use Rattle.answers.proofs.Refusals.{told, refused-first}
+use Rattle.cells.proofs.Lent.{both-known, first, second, tests, refusal-leaves, refused-dimension, tests-explicit, accepted-level}
 use borrow.Author.Needs.{needs}
 use Rattle.cells.proofs.mark.mark_cells.Statement.{statement}
 use Rattle.cells.proofs.mark.mark_cells.Tie as tie
 
--- after the first test the sizes are accepted
-accepted-sizes : (c : tie.After-enum-told) → let a = c .before .before .before .before .before .args in sizes (a .n .0) (a .darts) 0 ≡ accepted
-accepted-sizes c = sym (c .before .before .sizes .ensures) ∙ ap verdictOf (c .enum-told .given .1)
+abbrev start : tie.After-lent → tie.Start
+start c = c .before .before .before .before .before .before
 
--- after the fourth the job's verdict is that of the check of the level
-tests : (c : tie.Else3) → let a = c .before .before .before .before .before .before .before .before .before .before .before .args in checkExplicit (a .n .0) (a .darts) (now (a .table)) ≡ markLent (a .n .0) (a .darts) (now (a .table)) (a .dimension .0) (now (a .out))
-tests c = let a = c .before .before .before .before .before .before .before .before .before .before .before .args in tests-explicit (a .n .0) (a .darts) (now (a .table)) (a .dimension .0) (now (a .out)) (accepted-sizes (c .before .before .before .before .before .before)) (c .before .before .before .before .if1 .left) (c .before .before .before .if2 .left) (c .if3 .left)
+-- `lent` answers 1 2 3 4
+says : (c : tie.After-lent) → let a = start c .args in verdictOf (c .lent .result) ≡ first (a .n .0) (a .darts) (now (a .table)) (a .dimension .0) (now (a .out))
+says c = let a = start c .args in c .lent .ensures ∙ ap (lentOf (a .n .0) (a .darts) 0) (both-known (c .before .both .ensures) (c .before .before .before .rows-fit .ensures) (c .before .before .row-fits .ensures))
 
-sizes-requires : tie.Need-sizes-requires
-sizes-requires c κs = search needs
+accepts : (c : tie.After-enum-told) → let a = start (c .before .before) .args in first (a .n .0) (a .darts) (now (a .table)) (a .dimension .0) (now (a .out)) ≡ accepted
+accepts c = sym (told (says (c .before .before)) (c .enum-told .given .1))
+
+-- past the test of 13 the job's verdict is that of the check of the level
+explicit : (c : tie.After-check-explicit) → let a = start (c .before .before .before .before .before .before) .args in verdictOf (c .check-explicit .result) ≡ markLent (a .n .0) (a .darts) (now (a .table)) (a .dimension .0) (now (a .out))
+explicit c =
+    let a = start (c .before .before .before .before .before .before) .args in
+    c .check-explicit .ensures ∙ tests-explicit (a .n .0) (a .darts) (now (a .table)) (a .dimension .0) (now (a .out)) (accepts (c .before .before .before .before)) (c .before .if1 .left)
+
+rows-fit-requires : tie.Need-rows-fit-requires
+rows-fit-requires c κs = search needs
+
+row-fits-requires : tie.Need-row-fits-requires
+row-fits-requires c κs = search needs
+
+both-requires : tie.Need-both-requires
+both-requires c κs = search needs
+
+lent-requires : tie.Need-lent-requires
+lent-requires c κs = search needs
 
 enum-known-r : tie.Need-enum-known-r
 enum-known-r c = search needs
 
 returns : tie.Need-returns
 returns c =
-    let a = c .before .before .before .before .before .before .args in
+    let l = c .before .before .before in
+    let a = start l .args in
     let r = c .before .r .given .0 .0 in
-    let e = refused-sizes (a .n .0) (a .darts) (now (a .table)) (a .dimension .0) (now (a .out)) r (sym (ap verdictOf (c .before .r .given .1)) ∙ c .before .before .before .sizes .ensures) in
+    let e = refused-first (markLent (a .n .0) (a .darts) (now (a .table)) (a .dimension .0) (now (a .out))) (first (a .n .0) (a .darts) (now (a .table)) (a .dimension .0) (now (a .out))) (second (a .n .0) (a .darts) (now (a .table)) (a .dimension .0) (now (a .out))) (tests (a .n .0) (a .darts) (now (a .table)) (a .dimension .0) (now (a .out))) r (told (says l) (c .before .r .given .1)) in
     (e, refusal-leaves (a .n .0) (a .darts) (now (a .table)) (a .dimension .0) (now (a .out)) r e)
 
 enum-told : tie.Need-enum-told
 enum-told c = search needs
 
-cast-if1 : tie.Need-cast-if1
-cast-if1 c = search needs
-
-add-if1 : tie.Need-add-if1
-add-if1 c = search needs
-
-mul-if1 : tie.Need-mul-if1
-mul-if1 c = let a = c .before .before .before .before .before .before .args in omega (arith, table-fits (a .n .0) (a .darts) (accepted-sizes (c .before)))
-
 returns-2 : tie.Need-returns-2
 returns-2 c =
-    let a = c .before .before .before .before .before .before .before .args in
-    let e = refused-table (a .n .0) (a .darts) (now (a .table)) (a .dimension .0) (now (a .out)) (accepted-sizes (c .before .before)) (c .if1 .taken) in
-    (e, refusal-leaves (a .n .0) (a .darts) (now (a .table)) (a .dimension .0) (now (a .out)) Length e)
-
-returns-3 : tie.Need-returns-3
-returns-3 c =
-    let a = c .before .before .before .before .before .before .before .before .args in
-    let e = refused-out (a .n .0) (a .darts) (now (a .table)) (a .dimension .0) (now (a .out)) (accepted-sizes (c .before .before .before)) (c .before .if1 .left) (c .if2 .taken) in
-    (e, refusal-leaves (a .n .0) (a .darts) (now (a .table)) (a .dimension .0) (now (a .out)) Length e)
-
-returns-4 : tie.Need-returns-4
-returns-4 c =
-    let a = c .before .before .before .before .before .before .before .before .before .before .before .args in
-    let e = refused-dimension (a .n .0) (a .darts) (now (a .table)) (a .dimension .0) (now (a .out)) (accepted-sizes (c .before .before .before .before .before .before)) (c .before .before .before .before .if1 .left) (c .before .before .before .if2 .left) (c .if3 .taken) in
+    let told = c .before .before .before in
+    let a = start (told .before .before) .args in
+    let e = refused-dimension (a .n .0) (a .darts) (now (a .table)) (a .dimension .0) (now (a .out)) (accepts told) (c .if1 .taken) in
     (e, refusal-leaves (a .n .0) (a .darts) (now (a .table)) (a .dimension .0) (now (a .out)) (NoInvolution (record { 0 = 0 }) (a .dimension) 0) e)
 
 check-explicit-requires : tie.Need-check-explicit-requires
@@ -70,50 +67,47 @@ check-explicit-requires c κs = search needs
 enum-known-r-2 : tie.Need-enum-known-r-2
 enum-known-r-2 c = search needs
 
-returns-5 : tie.Need-returns-5
-returns-5 c =
-    let a = c .before .before .before .before .before .before .before .before .before .before .before .before .before .before .before .args in
-    let r = c .before .r2 .given .0 .0 in
-    let e = sym (ap verdictOf (c .before .r2 .given .1)) ∙ c .before .before .before .check-explicit .ensures ∙ tests (c .before .before .before .before) in
-    (e, refusal-leaves (a .n .0) (a .darts) (now (a .table)) (a .dimension .0) (now (a .out)) r e)
+returns-3 : tie.Need-returns-3
+returns-3 c =
+    let checked = c .before .before .before in
+    let a = start (checked .before .before .before .before .before .before) .args in
+    let e = told (explicit checked) (c .before .r2 .given .1) in
+    (e, refusal-leaves (a .n .0) (a .darts) (now (a .table)) (a .dimension .0) (now (a .out)) (c .before .r2 .given .0 .0) e)
 
 enum-told-2 : tie.Need-enum-told-2
 enum-told-2 c = search needs
 
 mark-accepted-requires : tie.Need-mark-accepted-requires
 mark-accepted-requires c κs =
-    let a = c .before .before .before .before .before .before .before .before .before .before .before .before .before .before .before .args in
-    let t = c .before .before .before .before in
-    let e = sym (c .before .before .before .check-explicit .ensures) ∙ ap verdictOf (c .before .enum-told2 .given .1) in
-    (explicit-level (a .n .0) (a .darts) (now (a .table)) (a .dimension .0) (now (a .out)) (accepted-sizes (t .before .before .before .before .before .before)) (t .before .before .before .before .if1 .left) (t .before .before .before .if2 .left) e, t .if3 .left, t .before .before .before .if2 .left)
+    let checked = c .before .before .before in
+    let a = start (checked .before .before .before .before .before .before) .args in
+    accepted-level (a .n .0) (a .darts) (now (a .table)) (a .dimension .0) (now (a .out)) (sym (told (explicit checked) (c .before .enum-told2 .given .1)))
 
 same-length : tie.Need-same-length
 same-length c = search needs
 
-returns-6 : tie.Need-returns-6
-returns-6 c =
+returns-4 : tie.Need-returns-4
+returns-4 c =
     let m = c .before .before in
-    let e = sym (ap verdictOf (m .before .before .enum-told2 .given .1)) ∙ m .before .before .before .before .check-explicit .ensures ∙ tests (m .before .before .before .before .before) in
+    let e = told (explicit (m .before .before .before .before)) (m .before .before .enum-told2 .given .1) in
     (e, rw (← e) (m .mark-accepted .ensures))
 
 pub mark-cells-spec : {M : Type 1} → statement M
 mark-cells-spec =
     tie.close
     (tie.spec
-    sizes-requires
+    rows-fit-requires
+    row-fits-requires
+    both-requires
+    lent-requires
     enum-known-r
     returns
     enum-told
-    cast-if1
-    add-if1
-    mul-if1
     returns-2
-    returns-3
-    returns-4
     check-explicit-requires
     enum-known-r-2
-    returns-5
+    returns-3
     enum-told-2
     mark-accepted-requires
     same-length
-    returns-6)
+    returns-4)

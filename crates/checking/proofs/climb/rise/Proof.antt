@@ -1,32 +1,37 @@
--- `checking::climb::rise` meets its contract. The invariant: the kernels passed are accepted, and the table holds the level that they leave. Assumes nothing.
-use mathlib.Core.Path.{refl, sym, ap, _∙_}
+-- `checking::climb::rise` meets its contract. The invariant: the kernels passed are accepted, and the table holds the level that they leave. The measure is the kernels left. Assumes nothing.
+use mathlib.Core.Path.{refl, sym, _∙_}
 use Prim.Native.Nat.{_-_}
-use native.Mathlib.Omega.{arith}
 use lib.ListN.{getD-replicate}
 use borrow.Author.Needs.{needs}
-use Rattle.answers.specs.Numbers.{verdictOf}
-use Rattle.checking.specs.Ready.{jointΛ, jointΔ}
+use Rattle.answers.proofs.Refusals.{told}
 use Rattle.checking.proofs.ClimbSteps.{Climbed, climb-none, climb-long, climb-tested, climb-strung, climb-refused, climb-next, climb-all}
 use Rattle.checking.proofs.climb.rise.Statement.{statement}
 use Rattle.checking.proofs.climb.rise.Tie as tie
 
 abbrev Inv-loop : tie.InvT-loop
-Inv-loop n darts joint table₀ head next top l₀ table l = Climbed (n .0) darts top (jointΛ joint) (jointΔ joint) table₀ table l
+Inv-loop n darts rows lambda delta table₀ head next top l₀ table l = Climbed (n .0) darts top rows lambda delta table l
 
 abbrev μ-loop : tie.MeasureT-loop
-μ-loop n darts joint table₀ head next top l₀ table l = top - l
+μ-loop n darts rows lambda delta table₀ head next top l₀ table l = top - l
 
-slice-aggregate-link : tie.Need-slice-aggregate-link Inv-loop μ-loop
-slice-aggregate-link c = search needs
+-- the entry, from the end of linking; the end of linking, from the head of the loop; and the turn, from one kernel's step
+abbrev start : tie.After-link Inv-loop μ-loop → tie.Start Inv-loop μ-loop
+start c = c .before .before .before .before .before .before .before
 
-slice-aggregate-link-2 : tie.Need-slice-aggregate-link-2 Inv-loop μ-loop
-slice-aggregate-link-2 c = search needs
+abbrev linked : tie.At-loop Inv-loop μ-loop → tie.After-link Inv-loop μ-loop
+linked c = c .before .before .before .before .before
+
+abbrev turn : tie.After-step Inv-loop μ-loop → tie.In-loop Inv-loop μ-loop
+turn c = c .before .before .before
 
 link-requires : tie.Need-link-requires Inv-loop μ-loop
-link-requires c κs = let p = c .before .before .before .before .pre in (p .0 .darts, p .1, refl, p .0 .darts, λ k lk. getD-replicate 256 k 65535 0 lk)
+link-requires c κs = let b = c .before .before .before .before .before .before .pre .0 in (b .darts, b .lambda-long, λ k lk. getD-replicate 256 k 65535 0 lk, refl, refl)
+
+copy-requires : tie.Need-copy-requires Inv-loop μ-loop
+copy-requires c κs = start (c .before) .pre .1
 
 loop-holds : tie.Need-loop-holds Inv-loop μ-loop
-loop-holds c = climb-none (c .before .before .before .before .before .before .before .pre .0)
+loop-holds c = climb-none (start (c .before .before .before .before) .pre .0) (c .before .before .copy .ensures)
 
 cast-first : tie.Need-cast-first Inv-loop μ-loop
 cast-first c = search needs
@@ -37,25 +42,24 @@ mul-first c = search needs
 array-read-first : tie.Need-array-read-first Inv-loop μ-loop
 array-read-first c = search needs
 
-slice-aggregate-step : tie.Need-slice-aggregate-step Inv-loop μ-loop
-slice-aggregate-step c = search needs
-
 step-requires : tie.Need-step-requires Inv-loop μ-loop
 step-requires c κs =
-    let p = c .before .before .before .before .before .before .before .before .before .before .before .pre in
-    let w = c .before .before .before .before .before .before .link in
-    let v = c .before .before .before .loop .inv in
-    let t = c .before .before .loop-test .taken in
-    (climb-tested v t refl, climb-strung v t (w .ensures) (p .1) (omega arith) refl)
+    let i = c .before .before in
+    let v = i .before .loop .inv in
+    let t = i .loop-test .taken in
+    (climb-tested v t, climb-strung v t (linked (i .before) .link .ensures) refl)
 
 enum-known-r : tie.Need-enum-known-r Inv-loop μ-loop
 enum-known-r c = search needs
 
 same-length : tie.Need-same-length Inv-loop μ-loop
-same-length c = c .before .before .before .before .table .given ∙ climb-long (c .before .before .before .before .before .before .before .before .before .loop .inv) ∙ sym (c .before .before .before .before .before .before .before .before .before .before .before .before .before .before .before .before .before .pre .0 .long)
+same-length c = let s : tie.After-step Inv-loop μ-loop = c .before .before .before .before .before in let h = turn s .before in c .before .before .before .before .table2 .given ∙ climb-long (h .loop .inv) ∙ sym (start (linked h) .pre .1)
 
 returns : tie.Need-returns Inv-loop μ-loop
-returns c = climb-refused (c .before .before .before .before .before .before .before .before .before .loop .inv) (c .before .before .before .before .before .before .before .before .loop-test .taken) refl (c .before .r .given .0 .0) (sym (ap verdictOf (c .before .r .given .1)) ∙ c .before .before .before .before .before .step .ensures .0) (c .before .before .before .before .before .step .last .1 .1 .1 .1 .1 .1 .0) (c .before .before .before .before .before .step .ensures .1)
+returns c =
+    let s : tie.After-step Inv-loop μ-loop = c .before .before .before .before .before in
+    let i = turn s in
+    climb-refused (i .before .loop .inv) (i .loop-test .taken) (s .step .ensures .1) (c .before .r .given .0 .0) (told (s .step .ensures .0) (c .before .r .given .1))
 
 enum-told : tie.Need-enum-told Inv-loop μ-loop
 enum-told c = search needs
@@ -67,10 +71,13 @@ loop-less : tie.Need-loop-less Inv-loop μ-loop
 loop-less c = search needs
 
 loop-again : tie.Need-loop-again Inv-loop μ-loop
-loop-again c = climb-next (c .before .before .before .before .before .before .before .before .loop .inv) (c .before .before .before .before .before .before .before .loop-test .taken) refl (sym (ap verdictOf (c .enum-told .given .1)) ∙ c .before .before .before .before .step .ensures .0) (c .before .before .before .before .step .last .1 .1 .1 .1 .1 .1 .0) (c .before .before .before .before .step .ensures .1)
+loop-again c =
+    let s : tie.After-step Inv-loop μ-loop = c .before .before .before .before in
+    let i = turn s in
+    climb-next (i .before .loop .inv) (i .loop-test .taken) (s .step .ensures .1) (told (s .step .ensures .0) (c .enum-told .given .1))
 
 same-length-2 : tie.Need-same-length-2 Inv-loop μ-loop
-same-length-2 c = climb-long (c .before .loop .inv) ∙ sym (c .before .before .before .before .before .before .before .before .before .pre .0 .long)
+same-length-2 c = climb-long (c .before .loop .inv) ∙ sym (start (linked (c .before)) .pre .1)
 
 returns-2 : tie.Need-returns-2 Inv-loop μ-loop
 returns-2 c = climb-all (c .before .loop .inv) (c .loop-test .left)
@@ -81,14 +88,12 @@ rise-spec =
     (tie.spec
     Inv-loop
     μ-loop
-    slice-aggregate-link
-    slice-aggregate-link-2
     link-requires
+    copy-requires
     loop-holds
     cast-first
     mul-first
     array-read-first
-    slice-aggregate-step
     step-requires
     enum-known-r
     same-length

@@ -5,29 +5,36 @@ use lib.ListN.{length}
 use denote.Ref.{now}
 use borrow.Author.Needs.{needs}
 use Rattle.maps.specs.Verdict.{accepted}
-use Rattle.facts.proofs.Verdicts.{then-accepted}
-use Rattle.answers.specs.Numbers.{verdictOf}
+use Rattle.maps.specs.Table.{each, listed}
+use Rattle.maps.specs.Folded.{addΛ, addΔ}
+use Rattle.laws.proofs.Verdicts.{then-accepted}
+use Rattle.answers.proofs.Refusals.{told}
 use Rattle.checking.specs.Climb.{baseAndMarks}
 use Rattle.checking.specs.Added.{addSizes, rowMarks, addMarks}
-use Rattle.checking.proofs.ClimbCheck.{Lent, copied-based}
+use Rattle.checking.proofs.ClimbCheck.{Lent, based}
 use Rattle.checking.proofs.AddCheck.{add-facts, row-marks, sizes-refused, marks-refused, ascend-refused, grown}
 use Rattle.checking.proofs.pyramid.add.Statement.{statement}
 use Rattle.checking.proofs.pyramid.add.Tie as tie
 
+-- the entry, from the test of 1 to 4 and 20; past that test, from past the test of 5 to 8; and past that, from the climb
+abbrev start : tie.After-enum-told → tie.Start
+start c = c .before .before .before .before .before .before .before .before .before .before .before
+
+abbrev lent-at : tie.After-enum-told2 → tie.After-enum-told
+lent-at c = c .before .before .before .before .before
+
+abbrev marked-at : tie.After-ascend → tie.After-enum-told2
+marked-at c = c .before .before .before .before
+
 -- past the first tests 1 to 4 and 20 are not refused; past the second, 5 to 8 are not
-sized : (c : tie.After-enum-told) → let a = c .before .before .before .before .before .before .before .before .before .before .before .args in addSizes (a .n .0) (a .darts) (a .h .0) (now (a .rows)) (now (a .lambda)) (now (a .delta)) (now (a .row)) (now (a .table)) ≡ accepted
-sized c = sym (c .before .before .add-lent .ensures) ∙ ap verdictOf (c .enum-told .given .1)
+sized : (c : tie.After-enum-told) → let a = start c .args in accepted ≡ addSizes (a .n .0) (a .darts) (a .h .0) (now (a .rows)) (now (a .lambda)) (now (a .delta)) (now (a .row)) (now (a .table))
+sized c = told (c .before .before .add-lent .ensures) (c .enum-told .given .1)
 
-facts : (c : tie.After-enum-told) → let a = c .before .before .before .before .before .before .before .before .before .before .before .args in Lent (a .n .0) (a .darts) (a .h .0) (now (a .rows)) (now (a .lambda)) (now (a .delta)) (now (a .table)) × (length (now (a .row)) ≡ a .darts)
-facts c = let a = c .before .before .before .before .before .before .before .before .before .before .before .args in add-facts (a .n .0) (a .darts) (a .h .0) (now (a .rows)) (now (a .lambda)) (now (a .delta)) (now (a .row)) (now (a .table)) (sized c)
+facts : (c : tie.After-enum-told) → let a = start c .args in Lent (a .n .0) (a .darts) (a .h .0) (now (a .rows)) (now (a .lambda)) (now (a .delta)) (now (a .table)) × (length (now (a .row)) ≡ a .darts)
+facts c = let a = start c .args in add-facts (a .n .0) (a .darts) (a .h .0) (now (a .rows)) (now (a .lambda)) (now (a .delta)) (now (a .row)) (now (a .table)) (sym (sized c))
 
-marked : (c : tie.After-enum-told2) → let a = c .before .before .before .before .before .before .before .before .before .before .before .before .before .before .before .before .args in addMarks (a .n .0) (a .darts) (a .h .0) (now (a .rows)) (now (a .lambda)) (now (a .delta)) (now (a .row)) ≡ accepted
-marked c = sym (c .before .before .add-marked .ensures) ∙ ap verdictOf (c .enum-told2 .given .1)
-
-marked-parts : (c : tie.After-enum-told2) → let a = c .before .before .before .before .before .before .before .before .before .before .before .before .before .before .before .before .args in (baseAndMarks (a .n .0) (a .darts) (a .h .0) (now (a .rows)) (now (a .lambda)) (now (a .delta)) ≡ accepted) × (rowMarks (a .n .0) (a .darts) (a .h .0) (now (a .lambda)) (now (a .row)) ≡ accepted)
-marked-parts c =
-    let a = c .before .before .before .before .before .before .before .before .before .before .before .before .before .before .before .before .args in
-    then-accepted (baseAndMarks (a .n .0) (a .darts) (a .h .0) (now (a .rows)) (now (a .lambda)) (now (a .delta))) (rowMarks (a .n .0) (a .darts) (a .h .0) (now (a .lambda)) (now (a .row))) (marked c)
+marked : (c : tie.After-enum-told2) → let a = start (lent-at c) .args in accepted ≡ addMarks (a .n .0) (a .darts) (a .h .0) (now (a .rows)) (now (a .lambda)) (now (a .delta)) (now (a .row))
+marked c = told (c .before .before .add-marked .ensures) (c .enum-told2 .given .1)
 
 add-lent-requires : tie.Need-add-lent-requires
 add-lent-requires c κs = search needs
@@ -46,16 +53,15 @@ same-length-3 c = search needs
 
 returns : tie.Need-returns
 returns c =
-    let a = c .before .before .before .before .before .before .before .before .before .before .before .before .args in
-    sizes-refused (a .n .0) (a .darts) (a .h .0) (now (a .rows)) (now (a .lambda)) (now (a .delta)) (now (a .row)) (now (a .table)) (c .before .r .given .0 .0) (sym (ap verdictOf (c .before .r .given .1)) ∙ c .before .before .before .add-lent .ensures)
+    let l : tie.After-add-lent = c .before .before .before in
+    let a = l .before .before .before .before .before .before .before .before .before .args in
+    sizes-refused (a .n .0) (a .darts) (a .h .0) (now (a .rows)) (now (a .lambda)) (now (a .delta)) (now (a .row)) (now (a .table)) (c .before .r .given .0 .0) (told (l .add-lent .ensures) (c .before .r .given .1))
 
 enum-told : tie.Need-enum-told
 enum-told c = search needs
 
 add-marked-requires : tie.Need-add-marked-requires
-add-marked-requires c κs =
-    let f = facts (c .before .before) in
-    (f .0 .base, f .0 .lambda-long, f .0 .delta-long, f .1)
+add-marked-requires c κs = let f = facts (c .before .before) in (f .0 .base, f .0 .lambda-long, f .0 .delta-long, f .1)
 
 enum-known-r-2 : tie.Need-enum-known-r-2
 enum-known-r-2 c = search needs
@@ -71,22 +77,22 @@ same-length-6 c = search needs
 
 returns-2 : tie.Need-returns-2
 returns-2 c =
-    let a = c .before .before .before .before .before .before .before .before .before .before .before .before .before .before .before .before .before .args in
-    marks-refused (a .n .0) (a .darts) (a .h .0) (now (a .rows)) (now (a .lambda)) (now (a .delta)) (now (a .row)) (now (a .table)) (sized (c .before .before .before .before .before .before)) (c .before .r2 .given .0 .0) (sym (ap verdictOf (c .before .r2 .given .1)) ∙ c .before .before .before .add-marked .ensures)
+    let m : tie.After-add-marked = c .before .before .before in
+    let l = m .before .before .before in
+    let a = start l .args in
+    marks-refused (a .n .0) (a .darts) (a .h .0) (now (a .rows)) (now (a .lambda)) (now (a .delta)) (now (a .row)) (now (a .table)) (sized l) (c .before .r2 .given .0 .0) (told (m .add-marked .ensures) (c .before .r2 .given .1))
 
 enum-told-2 : tie.Need-enum-told-2
 enum-told-2 c = search needs
 
-copy-requires : tie.Need-copy-requires
-copy-requires c κs = let f = facts (c .before .before .before .before .before .before) .0 in f .table-long ∙ sym (f .rows-long)
-
 ascend-requires : tie.Need-ascend-requires
 ascend-requires c κs =
-    let a = c .before .before .before .before .before .before .before .before .before .before .before .before .before .before .before .before .before .before .before .before .before .before .before .args in
-    let f = facts (c .before .before .before .before .before .before .before .before .before .before .before .before) in
-    let m = marked-parts (c .before .before .before .before .before .before .before) in (
-      (copied-based (a .n .0) (a .darts) (a .h .0) (now (a .rows)) (now (a .lambda)) (now (a .delta)) (now (a .table)) (c .before .before .before .before .before .copy .ensures) (f .0) (m .0), f .0 .height, f .0 .lambda-long, f .0 .delta-long),
-      (f .1, row-marks (a .n .0) (a .darts) (a .h .0) (now (a .rows)) (now (a .lambda)) (now (a .delta)) (now (a .row)) (now (a .table)) (m .1)),
+    let m = c .before .before .before in
+    let a = start (lent-at m) .args in
+    let f = facts (lent-at m) in
+    let p = then-accepted (baseAndMarks (a .n .0) (a .darts) (a .h .0) (now (a .rows)) (now (a .lambda)) (now (a .delta))) (rowMarks (a .n .0) (a .darts) (a .h .0) (now (a .lambda)) (now (a .row))) (sym (marked m)) in (
+      (based (a .n .0) (a .darts) (a .h .0) (now (a .rows)) (now (a .lambda)) (now (a .delta)) (now (a .table)) (f .0) (p .0), f .0 .height, f .0 .table-long),
+      (f .1, row-marks (a .n .0) (a .darts) (a .h .0) (now (a .rows)) (now (a .lambda)) (now (a .delta)) (now (a .row)) (now (a .table)) (p .1)),
     )
 
 enum-known-r-3 : tie.Need-enum-known-r-3
@@ -103,18 +109,27 @@ same-length-9 c = search needs
 
 returns-3 : tie.Need-returns-3
 returns-3 c =
-    let a = c .before .before .before .before .before .before .before .before .before .before .before .before .before .before .before .before .before .before .before .before .before .before .before .before .before .before .before .before .before .args in
-    let e = c .before .before .before .before .before .ascend .ensures in
-    ascend-refused (a .n .0) (a .darts) (a .h .0) (now (a .rows)) (now (a .lambda)) (now (a .delta)) (now (a .row)) (now (a .table)) (sized (c .before .before .before .before .before .before .before .before .before .before .before .before .before .before .before .before .before .before)) (marked (c .before .before .before .before .before .before .before .before .before .before .before .before .before)) (c .before .before .before .before .before .before .before .before .before .before .before .copy .ensures) _ (e .1) (c .before .r3 .given .0 .0) (sym (ap verdictOf (c .before .r3 .given .1)) ∙ e .0)
+    let k : tie.After-ascend = c .before .before .before .before .before in
+    let m = marked-at k in
+    let a = start (lent-at m) .args in
+    let e = k .ascend .ensures in
+    ascend-refused (a .n .0) (a .darts) (a .h .0) (now (a .rows)) (now (a .lambda)) (now (a .delta)) (now (a .row)) (now (a .table)) (sized (lent-at m)) (marked m) (e .1) (c .before .r3 .given .0 .0) (told (e .0) (c .before .r3 .given .1))
 
 enum-told-3 : tie.Need-enum-told-3
 enum-told-3 c = search needs
 
 fold-in-requires : tie.Need-fold-in-requires
-fold-in-requires c κs = let f = facts (c .before .before .before .before .before .before .before .before .before .before .before .before .before .before .before .before .before .before .before) in (f .0 .height, f .1, f .0 .lambda-long, f .0 .delta-long)
+fold-in-requires c κs =
+    let k : tie.After-ascend = c .before .before .before .before .before .before in
+    let f = facts (lent-at (marked-at k)) in
+    (f .0 .height, f .0 .lambda-long ∙ sym (f .1), f .0 .delta-long ∙ sym (f .1))
 
-add-t39 : tie.Need-add-t39
-add-t39 c = omega (arith, facts (c .before .before .before .before .before .before .before .before .before .before .before .before .before .before .before .before .before .before .before .before .before .before .before .before .before) .0 .height)
+-- where the marks are folded in, past the climb
+abbrev climbed : tie.After-fold-in → tie.After-ascend
+climbed c = c .before .before .before .before .before .before .before
+
+add-t36 : tie.Need-add-t36
+add-t36 c = omega (arith, facts (lent-at (marked-at (climbed (c .before .before .before .before .before)))) .0 .height)
 
 same-length-10 : tie.Need-same-length-10
 same-length-10 c = search needs
@@ -127,10 +142,14 @@ same-length-12 c = search needs
 
 returns-4 : tie.Need-returns-4
 returns-4 c =
-    let a = c .before .before .before .before .before .before .before .before .before .before .before .before .before .before .before .before .before .before .before .before .before .before .before .before .before .before .before .before .before .before .before .before .before .before .before .before .args in
-    let e = c .before .before .before .before .before .before .before .before .before .before .before .before .ascend .ensures in
-    let l = c .before .before .before .before .before .fold-in .ensures in
-    grown (a .n .0) (a .darts) (a .h .0) (now (a .rows)) (now (a .lambda)) (now (a .delta)) (now (a .row)) (now (a .table)) (sized (c .before .before .before .before .before .before .before .before .before .before .before .before .before .before .before .before .before .before .before .before .before .before .before .before .before)) (marked (c .before .before .before .before .before .before .before .before .before .before .before .before .before .before .before .before .before .before .before .before)) (c .before .before .before .before .before .before .before .before .before .before .before .before .before .before .before .before .before .before .copy .ensures) _ (e .1) (sym (ap verdictOf (c .before .before .before .before .before .before .before .before .enum-told3 .given .1)) ∙ e .0) _ (l .0) _ (l .1)
+    let f : tie.After-fold-in = c .before .before .before .before .before in
+    let k = climbed f in
+    let m = marked-at k in
+    let a = start (lent-at m) .args in
+    let long = facts (lent-at m) .1 in
+    let e = k .ascend .ensures in
+    grown (a .n .0) (a .darts) (a .h .0) (now (a .rows)) (now (a .lambda)) (now (a .delta)) (now (a .row)) (now (a .table)) (sized (lent-at m)) (marked m) (e .1) (told (e .0) (f .before .before .before .enum-told3 .given .1))
+    (f .fold-in .ensures .0 ∙ ap (listed (addΛ (a .n .0) (a .h .0) (each (now (a .lambda))) (each (now (a .row))))) long) (f .fold-in .ensures .1 ∙ ap (listed (addΔ (a .n .0) (each (now (a .delta))) (each (now (a .row))))) long)
 
 pub add-spec : {M : Type 1} → statement M
 add-spec =
@@ -150,7 +169,6 @@ add-spec =
     same-length-6
     returns-2
     enum-told-2
-    copy-requires
     ascend-requires
     enum-known-r-3
     same-length-7
@@ -159,7 +177,7 @@ add-spec =
     returns-3
     enum-told-3
     fold-in-requires
-    add-t39
+    add-t36
     same-length-10
     same-length-11
     same-length-12

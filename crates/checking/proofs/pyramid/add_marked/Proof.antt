@@ -1,9 +1,7 @@
 -- `checking::pyramid::add_marked` meets its contract. Assumes nothing.
-use mathlib.Core.Path.{sym, ap, _∙_}
 use denote.Ref.{now}
 use borrow.Author.Needs.{needs}
-use Rattle.answers.specs.Numbers.{verdictOf}
-use Rattle.answers.proofs.Refusals.{refused-then}
+use Rattle.answers.proofs.Refusals.{told, refused-then}
 use Rattle.checking.specs.Climb.{baseAndMarks}
 use Rattle.checking.specs.Added.{rowMarks}
 use Rattle.checking.proofs.pyramid.add_marked.Statement.{statement}
@@ -17,9 +15,9 @@ enum-known-r c = search needs
 
 returns : tie.Need-returns
 returns c =
-    let a = c .before .before .before .before .before .before .before .before .args in
-    refused-then (c .before .r .given .0 .0) (baseAndMarks (a .n .0) (a .darts) (a .h .0) (now (a .rows)) (now (a .lambda)) (now (a .delta))) (rowMarks (a .n .0) (a .darts) (a .h .0) (now (a .lambda)) (now (a .row)))
-    (sym (ap verdictOf (c .before .r .given .1)) ∙ c .before .before .before .base-and-marks .ensures)
+    let b : tie.After-base-and-marks = c .before .before .before in
+    let a = b .before .before .before .before .before .args in
+    refused-then (c .before .r .given .0 .0) (baseAndMarks (a .n .0) (a .darts) (a .h .0) (now (a .rows)) (now (a .lambda)) (now (a .delta))) (rowMarks (a .n .0) (a .darts) (a .h .0) (now (a .lambda)) (now (a .row))) (told (b .base-and-marks .ensures) (c .before .r .given .1))
 
 enum-told : tie.Need-enum-told
 enum-told c = search needs
@@ -28,7 +26,7 @@ row-checked-requires : tie.Need-row-checked-requires
 row-checked-requires c κs = search needs
 
 returns-2 : tie.Need-returns-2
-returns-2 c = rw (sym (c .before .before .before .base-and-marks .ensures) ∙ ap verdictOf (c .before .enum-told .given .1)) (c .row-checked .ensures)
+returns-2 c = rw (← (told (c .before .before .before .base-and-marks .ensures) (c .before .enum-told .given .1))) (c .row-checked .ensures)
 
 pub add-marked-spec : {M : Type 1} → statement M
 add-marked-spec =

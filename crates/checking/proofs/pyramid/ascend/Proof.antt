@@ -6,67 +6,115 @@ use native.Mathlib.Numerals.{add-one}
 use native.Mathlib.Omega.{arith}
 use lib.ListN.{length, take, drop}
 use denote.Ref.{now}
+use borrow.Author.Needs.{needs}
 use Rattle.maps.specs.Table.{each, listed}
 use Rattle.maps.specs.Folded.{addΛ, addΔ}
-use Rattle.facts.proofs.Tables.{length-listed}
-use Rattle.answers.specs.Numbers.{verdictOf}
-use Rattle.checking.specs.Climb.{joined}
-use Rattle.checking.proofs.ClimbMarks.{blank, blank-long, blank-part, part-listed, part-long}
+use Rattle.laws.proofs.Tables.{length-listed}
+use Rattle.checking.proofs.Rows.{blank, blank-part, part-is, part-whole}
 use Rattle.checking.proofs.AddKernels.{ascend-base, ascend-risen}
-use borrow.Author.Needs.{needs}
 use Rattle.checking.proofs.pyramid.ascend.Statement.{statement}
 use Rattle.checking.proofs.pyramid.ascend.Tie as tie
 
--- the joint row, as long as there are darts, and the local row whole
-abbrev part : (c : tie.After-join-added) → List ℕ
-part c = take (c .before .before .before .before .before .before .args .darts) (c .join-added .last .1 .1 .1 .1 .1 .1 .0 ++ drop (c .before .before .before .before .before .before .args .darts) blank)
+-- the entry, from where the mark row is folded in
+abbrev start : tie.After-folded → tie.Start
+start c = c .before .before .before .before .before .before .before .before
 
-part-is : (c : tie.After-join-added) → part c ≡ listed (joined (addΛ (c .before .before .before .before .before .before .args .n .0) (c .before .before .before .before .before .before .args .h .0) (each (now (c .before .before .before .before .before .before .args .lambda))) (each (now (c .before .before .before .before .before .before .args .row)))) (addΔ (c .before .before .before .before .before .before .args .n .0) (each (now (c .before .before .before .before .before .before .args .delta))) (each (now (c .before .before .before .before .before .before .args .row))))) (c .before .before .before .before .before .before .args .darts)
-part-is c = part-listed (joined (addΛ (c .before .before .before .before .before .before .args .n .0) (c .before .before .before .before .before .before .args .h .0) (each (now (c .before .before .before .before .before .before .args .lambda))) (each (now (c .before .before .before .before .before .before .args .row)))) (addΔ (c .before .before .before .before .before .before .args .n .0) (each (now (c .before .before .before .before .before .before .args .delta))) (each (now (c .before .before .before .before .before .before .args .row))))) (c .before .before .before .before .before .before .args .darts) (c .join-added .last .1 .1 .1 .1 .1 .1 .0) (drop (c .before .before .before .before .before .before .args .darts) blank) (c .join-added .ensures)
+-- the new Λ and Δ
+abbrev new-lambda : tie.After-folded → List ℕ
+new-lambda c = c .folded .last .1 .1 .1 .1 .1 .0
 
-whole-long : (c : tie.After-join-added) → length (c .join-added .last .1 .1 .1 .1 .1 .1 .0 ++ drop (c .before .before .before .before .before .before .args .darts) blank) ≡ 4096
-whole-long c = part-long (joined (addΛ (c .before .before .before .before .before .before .args .n .0) (c .before .before .before .before .before .before .args .h .0) (each (now (c .before .before .before .before .before .before .args .lambda))) (each (now (c .before .before .before .before .before .before .args .row)))) (addΔ (c .before .before .before .before .before .before .args .n .0) (each (now (c .before .before .before .before .before .before .args .delta))) (each (now (c .before .before .before .before .before .before .args .row))))) (c .before .before .before .before .before .before .args .darts) (c .join-added .last .1 .1 .1 .1 .1 .1 .0) blank 4096 (c .join-added .ensures) (c .before .before .before .before .before .before .pre .0 .0 .darts) blank-long
+abbrev new-delta : tie.After-folded → List ℕ
+new-delta c = c .folded .last .1 .1 .1 .1 .1 .1 .0
 
-part-size : (c : tie.After-join-added) → length (part c) ≡ c .before .before .before .before .before .before .args .darts
-part-size c = ap length (part-is c) ∙ length-listed (joined (addΛ (c .before .before .before .before .before .before .args .n .0) (c .before .before .before .before .before .before .args .h .0) (each (now (c .before .before .before .before .before .before .args .lambda))) (each (now (c .before .before .before .before .before .before .args .row)))) (addΔ (c .before .before .before .before .before .before .args .n .0) (each (now (c .before .before .before .before .before .before .args .delta))) (each (now (c .before .before .before .before .before .before .args .row))))) (c .before .before .before .before .before .before .args .darts)
+lambda-is : (c : tie.After-folded) → let a = start c .args in new-lambda c ≡ listed (addΛ (a .n .0) (a .h .0) (each (now (a .lambda))) (each (now (a .row)))) (a .darts)
+lambda-is c = let s = start c in c .folded .ensures .0 ∙ ap (listed (addΛ (s .args .n .0) (s .args .h .0) (each (now (s .args .lambda))) (each (now (s .args .row))))) (s .pre .1 .0)
 
-array-borrow-prefix-joint : tie.Need-array-borrow-prefix-joint
-array-borrow-prefix-joint c = search needs
+delta-is : (c : tie.After-folded) → let a = start c .args in new-delta c ≡ listed (addΔ (a .n .0) (each (now (a .delta))) (each (now (a .row)))) (a .darts)
+delta-is c = let s = start c in c .folded .ensures .1 ∙ ap (listed (addΔ (s .args .n .0) (each (now (s .args .delta))) (each (now (s .args .row))))) (s .pre .1 .0)
 
-slice-aggregate-join-added : tie.Need-slice-aggregate-join-added
-slice-aggregate-join-added c = sym (blank-part (c .before .before .before .before .before .args .darts) (c .before .before .before .before .before .pre .0 .0 .darts))
+lambda-long : (c : tie.After-folded) → length (new-lambda c) ≡ start c .args .darts
+lambda-long c = let a = start c .args in ap length (lambda-is c) ∙ length-listed (addΛ (a .n .0) (a .h .0) (each (now (a .lambda))) (each (now (a .row)))) (a .darts)
 
-join-added-requires : tie.Need-join-added-requires
-join-added-requires c κs = let p = c .before .before .before .before .before .pre in (p .0 .1, p .0 .2, p .0 .3, p .1 .0, blank-part (c .before .before .before .before .before .args .darts) (c .before .before .before .before .before .pre .0 .0 .darts))
+delta-long : (c : tie.After-folded) → length (new-delta c) ≡ start c .args .darts
+delta-long c = let a = start c .args in ap length (delta-is c) ∙ length-listed (addΔ (a .n .0) (each (now (a .delta))) (each (now (a .row)))) (a .darts)
 
-add-t12 : tie.Need-add-t12
-add-t12 c = search needs
+-- the parts of the local rows that hold them
+abbrev part : ℕ → List ℕ → List ℕ
+part N list = take N (list ++ drop N blank)
 
-array-share-prefix-joint : tie.Need-array-share-prefix-joint
-array-share-prefix-joint c = omega (arith, whole-long (c .before .before), c .before .before .before .before .before .before .before .before .pre .0 .0 .darts)
+lambda-part : (c : tie.After-folded) → part (start c .args .darts) (new-lambda c) ≡ new-lambda c
+lambda-part c = part-is (start c .args .darts) (new-lambda c) (lambda-long c)
+
+delta-part : (c : tie.After-folded) → part (start c .args .darts) (new-delta c) ≡ new-delta c
+delta-part c = part-is (start c .args .darts) (new-delta c) (delta-long c)
+
+array-borrow-prefix-new-lambda : tie.Need-array-borrow-prefix-new-lambda
+array-borrow-prefix-new-lambda c = search needs
+
+slice-aggregate-folded : tie.Need-slice-aggregate-folded
+slice-aggregate-folded c = let s = c .before .before .before .before .before .before in sym (blank-part (s .args .darts) (s .pre .0 .0 .darts))
+
+array-borrow-prefix-new-delta : tie.Need-array-borrow-prefix-new-delta
+array-borrow-prefix-new-delta c = search needs
+
+slice-aggregate-folded-2 : tie.Need-slice-aggregate-folded-2
+slice-aggregate-folded-2 c = let s = c .before .before .before .before .before .before .before in sym (blank-part (s .args .darts) (s .pre .0 .0 .darts))
+
+folded-requires : tie.Need-folded-requires
+folded-requires c κs =
+    let s = c .before .before .before .before .before .before .before in
+    let p = s .pre in
+    let r = sym (p .1 .0) in
+    let b = blank-part (s .args .darts) (p .0 .0 .darts) ∙ r in
+    (p .0 .1, p .0 .0 .lambda-long ∙ r, p .0 .0 .delta-long ∙ r, b, b)
+
+add-t18 : tie.Need-add-t18
+add-t18 c = search needs
+
+array-share-prefix-new-lambda : tie.Need-array-share-prefix-new-lambda
+array-share-prefix-new-lambda c = let f = c .before .before .before in let few = start f .pre .0 .0 .darts in omega (arith, part-whole (start f .args .darts) (new-lambda f) (lambda-long f) few)
 
 slice-aggregate-rise : tie.Need-slice-aggregate-rise
-slice-aggregate-rise c = sym (part-size (c .before .before .before))
+slice-aggregate-rise c = let f : tie.After-folded = c .before .before .before .before in sym (ap length (lambda-part f) ∙ lambda-long f)
+
+array-share-prefix-new-delta : tie.Need-array-share-prefix-new-delta
+array-share-prefix-new-delta c = let f : tie.After-folded = c .before .before .before .before in let few = start f .pre .0 .0 .darts in omega (arith, part-whole (start f .args .darts) (new-delta f) (delta-long f) few)
+
+slice-aggregate-rise-2 : tie.Need-slice-aggregate-rise-2
+slice-aggregate-rise-2 c = let f : tie.After-folded = c .before .before .before .before .before in sym (ap length (delta-part f) ∙ delta-long f)
 
 rise-requires : tie.Need-rise-requires
-rise-requires c κs = let s = c .before .before .before .before .before .before .before .before .before .before in (ascend-base (now (s .args .lambda)) (now (s .args .delta)) (now (s .args .row)) (s .pre .0 .0) (s .pre .0 .1) (s .pre .0 .2) (s .pre .0 .3) (s .pre .1 .1) (part-is (c .before .before .before .before)) (add-one (s .args .h .0)), part-size (c .before .before .before .before))
+rise-requires c κs =
+    let f : tie.After-folded = c .before .before .before .before .before .before in
+    let s = start f in
+    let p = s .pre in
+    (ascend-base (now (s .args .row)) (p .0 .0) (p .0 .1) (p .1 .1) (lambda-part f ∙ lambda-is f) (delta-part f ∙ delta-is f) (add-one (s .args .h .0)), p .0 .2)
 
 same-length : tie.Need-same-length
 same-length c = search needs
 
 returns : tie.Need-returns
-returns c = let s = c .before .before .before .before .before .before .before .before .before .before .before .before .before in let e = c .before .before .rise .ensures in ascend-risen (now (s .args .lambda)) (now (s .args .delta)) (now (s .args .row)) (s .pre .0 .0) (s .pre .0 .1) (s .pre .0 .2) (s .pre .0 .3) (s .pre .1 .1) (part-is (c .before .before .before .before .before .before .before)) (add-one (s .args .h .0)) (verdictOf (c .before .before .rise .result)) (c .before .before .rise .last .1 .1 .1 .1 .0) (e .0) (e .1)
+returns c =
+    let r : tie.After-rise = c .before .before in
+    let f : tie.After-folded = r .before .before .before .before .before .before .before in
+    let s = start f in
+    let p = s .pre in
+    ascend-risen (now (s .args .row)) (p .0 .0) (p .0 .1) (p .1 .1) (lambda-part f ∙ lambda-is f) (delta-part f ∙ delta-is f) (add-one (s .args .h .0)) (r .rise .ensures .0) (r .rise .ensures .1)
 
 pub ascend-spec : {M : Type 1} → statement M
 ascend-spec =
     tie.close
     (tie.spec
-    array-borrow-prefix-joint
-    slice-aggregate-join-added
-    join-added-requires
-    add-t12
-    array-share-prefix-joint
+    array-borrow-prefix-new-lambda
+    slice-aggregate-folded
+    array-borrow-prefix-new-delta
+    slice-aggregate-folded-2
+    folded-requires
+    add-t18
+    array-share-prefix-new-lambda
     slice-aggregate-rise
+    array-share-prefix-new-delta
+    slice-aggregate-rise-2
     rise-requires
     same-length
     returns)

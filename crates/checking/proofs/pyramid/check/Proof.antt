@@ -1,23 +1,30 @@
 -- `checking::pyramid::check` meets its contract. Assumes nothing.
-use mathlib.Core.Path.{_≡_, sym, ap, _∙_}
+use mathlib.Core.Path.{_≡_, sym}
 use denote.Ref.{now}
 use borrow.Author.Needs.{needs}
 use Rattle.maps.specs.Verdict.{accepted}
-use Rattle.answers.specs.Numbers.{verdictOf}
+use Rattle.answers.proofs.Refusals.{told}
 use Rattle.checking.specs.Climb.{lentSizes, baseAndMarks}
-use Rattle.checking.proofs.ClimbCheck.{Lent, lent-facts, copied-based, check-sizes, check-marks, check-climbed}
+use Rattle.checking.proofs.ClimbCheck.{Lent, check-facts, based, check-sizes, check-marks, check-climbed}
 use Rattle.checking.proofs.pyramid.check.Statement.{statement}
 use Rattle.checking.proofs.pyramid.check.Tie as tie
 
--- past the first tests 1 to 4 are not refused; past the second, 5 to 8 are not
-sized : (c : tie.After-enum-told) → let a = c .before .before .before .before .before .before .before .before .args in lentSizes (a .n .0) (a .darts) (a .h .0) (now (a .rows)) (now (a .lambda)) (now (a .delta)) (now (a .table)) ≡ accepted
-sized c = sym (c .before .before .lent .ensures) ∙ ap verdictOf (c .enum-told .given .1)
+-- the entry, from the test of 1 to 4; and past that test, from past the test of 5 to 8
+abbrev start : tie.After-lent → tie.Start
+start c = c .before .before .before .before .before .before
 
-facts : (c : tie.After-enum-told) → let a = c .before .before .before .before .before .before .before .before .args in Lent (a .n .0) (a .darts) (a .h .0) (now (a .rows)) (now (a .lambda)) (now (a .delta)) (now (a .table))
-facts c = let a = c .before .before .before .before .before .before .before .before .args in lent-facts (a .n .0) (a .darts) (a .h .0) (now (a .rows)) (now (a .lambda)) (now (a .delta)) (now (a .table)) (sized c)
+abbrev lent-at : tie.After-enum-told2 → tie.After-enum-told
+lent-at c = c .before .before .before
 
-marked : (c : tie.After-enum-told2) → let a = c .before .before .before .before .before .before .before .before .before .before .before .args in baseAndMarks (a .n .0) (a .darts) (a .h .0) (now (a .rows)) (now (a .lambda)) (now (a .delta)) ≡ accepted
-marked c = sym (c .before .before .base-and-marks .ensures) ∙ ap verdictOf (c .enum-told2 .given .1)
+-- past the first test 1 to 4 are not refused; past the second, 5 to 8 are not
+sized : (c : tie.After-enum-told) → let a = start (c .before .before) .args in accepted ≡ lentSizes (a .n .0) (a .darts) (a .h .0) (now (a .rows)) (now (a .lambda)) (now (a .delta)) (now (a .table))
+sized c = told (c .before .before .lent .ensures) (c .enum-told .given .1)
+
+facts : (c : tie.After-enum-told) → let a = start (c .before .before) .args in Lent (a .n .0) (a .darts) (a .h .0) (now (a .rows)) (now (a .lambda)) (now (a .delta)) (now (a .table))
+facts c = let a = start (c .before .before) .args in check-facts (a .n .0) (a .darts) (a .h .0) (now (a .rows)) (now (a .lambda)) (now (a .delta)) (now (a .table)) (sym (sized c))
+
+marked : (c : tie.After-enum-told2) → let a = start (lent-at c .before .before) .args in accepted ≡ baseAndMarks (a .n .0) (a .darts) (a .h .0) (now (a .rows)) (now (a .lambda)) (now (a .delta))
+marked c = told (c .before .before .base-and-marks .ensures) (c .enum-told2 .given .1)
 
 lent-requires : tie.Need-lent-requires
 lent-requires c κs = search needs
@@ -30,16 +37,15 @@ same-length c = search needs
 
 returns : tie.Need-returns
 returns c =
-    let a = c .before .before .before .before .before .before .before .before .before .args in
-    check-sizes (a .n .0) (a .darts) (a .h .0) (now (a .rows)) (now (a .lambda)) (now (a .delta)) (now (a .table)) (c .before .r .given .0 .0) (sym (ap verdictOf (c .before .r .given .1)) ∙ c .before .before .before .lent .ensures)
+    let l : tie.After-lent = c .before .before .before in
+    let a = start l .args in
+    check-sizes (a .n .0) (a .darts) (a .h .0) (now (a .rows)) (now (a .lambda)) (now (a .delta)) (now (a .table)) (c .before .r .given .0 .0) (told (l .lent .ensures) (c .before .r .given .1))
 
 enum-told : tie.Need-enum-told
 enum-told c = search needs
 
 base-and-marks-requires : tie.Need-base-and-marks-requires
-base-and-marks-requires c κs =
-    let f = facts c in
-    (f .base, f .lambda-long, f .delta-long)
+base-and-marks-requires c κs = let f = facts c in (f .base, f .lambda-long, f .delta-long)
 
 enum-known-r-2 : tie.Need-enum-known-r-2
 enum-known-r-2 c = search needs
@@ -49,29 +55,28 @@ same-length-2 c = search needs
 
 returns-2 : tie.Need-returns-2
 returns-2 c =
-    let a = c .before .before .before .before .before .before .before .before .before .before .before .before .args in
-    check-marks (a .n .0) (a .darts) (a .h .0) (now (a .rows)) (now (a .lambda)) (now (a .delta)) (now (a .table)) (sized (c .before .before .before .before)) (c .before .r2 .given .0 .0) (sym (ap verdictOf (c .before .r2 .given .1)) ∙ c .before .before .before .base-and-marks .ensures)
+    let m : tie.After-base-and-marks = c .before .before .before in
+    let a = start (m .before .before .before) .args in
+    check-marks (a .n .0) (a .darts) (a .h .0) (now (a .rows)) (now (a .lambda)) (now (a .delta)) (now (a .table)) (sized (m .before)) (c .before .r2 .given .0 .0) (told (m .base-and-marks .ensures) (c .before .r2 .given .1))
 
 enum-told-2 : tie.Need-enum-told-2
 enum-told-2 c = search needs
 
-copy-requires : tie.Need-copy-requires
-copy-requires c κs = let f = facts (c .before .before .before .before) in f .table-long ∙ sym (f .rows-long)
-
-climb-requires : tie.Need-climb-requires
-climb-requires c κs =
-    let a = c .before .before .before .before .before .before .before .before .before .before .before .before .before .before .before .before .args in
-    let f = facts (c .before .before .before .before .before .before .before .before) in
-    (copied-based (a .n .0) (a .darts) (a .h .0) (now (a .rows)) (now (a .lambda)) (now (a .delta)) (now (a .table)) (c .before .before .before .copy .ensures) (facts (c .before .before .before .before .before .before .before .before)) (marked (c .before .before .before .before .before)), f .lambda-long, f .delta-long)
+rise-requires : tie.Need-rise-requires
+rise-requires c κs =
+    let l = lent-at (c .before) in
+    let a = start (l .before .before) .args in
+    (based (a .n .0) (a .darts) (a .h .0) (now (a .rows)) (now (a .lambda)) (now (a .delta)) (now (a .table)) (facts l) (sym (marked (c .before))), facts l .table-long)
 
 same-length-3 : tie.Need-same-length-3
 same-length-3 c = search needs
 
 returns-3 : tie.Need-returns-3
 returns-3 c =
-    let a = c .before .before .before .before .before .before .before .before .before .before .before .before .before .before .before .before .before .before .before .args in
-    let e = c .before .before .climb .ensures in
-    check-climbed (a .n .0) (a .darts) (a .h .0) (now (a .rows)) (now (a .lambda)) (now (a .delta)) (now (a .table)) (sized (c .before .before .before .before .before .before .before .before .before .before .before)) (marked (c .before .before .before .before .before .before .before .before)) (c .before .before .before .before .before .before .copy .ensures) (verdictOf (c .before .before .climb .result)) _ (e .0) (e .1)
+    let m : tie.After-enum-told2 = c .before .before .before .before in
+    let a = start (lent-at m .before .before) .args in
+    let e = c .before .before .rise .ensures in
+    check-climbed (a .n .0) (a .darts) (a .h .0) (now (a .rows)) (now (a .lambda)) (now (a .delta)) (now (a .table)) (sized (lent-at m)) (marked m) (e .0) (e .1)
 
 pub check-spec : {M : Type 1} → statement M
 check-spec =
@@ -87,7 +92,6 @@ check-spec =
     same-length-2
     returns-2
     enum-told-2
-    copy-requires
-    climb-requires
+    rise-requires
     same-length-3
     returns-3)

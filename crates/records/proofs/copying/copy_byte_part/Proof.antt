@@ -1,34 +1,35 @@
--- `records::copying::copy_byte_part` meets its contract: what the part holds is what the body has there. Assumes nothing.
-use mathlib.Core.Path.{ap, _∙_}
-use Prim.Native.Nat.{ℕ}
+-- `records::copying::copy_byte_part` meets its contract. The invariant: the bytes passed are laid. The measure: the bytes left. Assumes nothing.
+use mathlib.Core.Path.{_≡_, refl}
+use Prim.Native.Nat.{_-_, _≤_, zero-le}
 use native.Mathlib.Omega.{arith}
-use lib.ListN.{length-replicate}
-use denote.Ref.{now}
 use borrow.Author.Needs.{needs}
-use Rattle.maps.specs.Table.{listed}
-use Rattle.records.specs.Parts.{byteFrom, laid}
-use Rattle.records.proofs.Laid.{laid-same}
-use Rattle.records.proofs.Parted.{part-bytes}
+use Rattle.records.specs.Parts.{byteFrom, Laid}
+use Rattle.records.proofs.Laid.{laid-none, laid-more}
 use Rattle.records.proofs.copying.copy_byte_part.Statement.{statement}
 use Rattle.records.proofs.copying.copy_byte_part.Tie as tie
 
-read-part-requires : tie.Need-read-part-requires
-read-part-requires c κs = (omega arith, length-replicate {A = ℕ} 128 0)
+abbrev Inv-loop : tie.InvT-loop
+Inv-loop bytes from to₀ at part d₀ to d = (d ≤ 128) × Laid (byteFrom bytes from) at d to₀ to
 
-write-bytes-requires : tie.Need-write-bytes-requires
-write-bytes-requires c κs = search needs
+abbrev μ-loop : tie.MeasureT-loop
+μ-loop bytes from to₀ at part d₀ to d = 128 - d
 
-same-length : tie.Need-same-length
-same-length c = search needs
-
-returns : tie.Need-returns
-returns c =
-    let a = c .before .before .before .before .before .before .before .before .before .args in
-    let bytes = now (a .bytes) in
-    c .before .before .write-bytes .ensures
-    ∙ ap (λ part. laid (byteFrom part 0) (a .at) 128 (now (a .to))) (c .before .before .before .before .before .read-part .ensures)
-    ∙ laid-same (byteFrom (listed (byteFrom bytes (a .from)) 128) 0) (byteFrom bytes (a .from)) (a .at) 128 (now (a .to)) (part-bytes bytes (a .from))
+returns : tie.Need-returns Inv-loop μ-loop
+returns c = let e : c .before .loop .d ≡ 128 = omega arith in rw e at (c .before .loop .inv .1)
 
 pub copy-byte-part-spec : {M : Type 1} → statement M
 copy-byte-part-spec =
-    tie.close (tie.spec read-part-requires write-bytes-requires same-length returns)
+    tie.close
+    (tie.spec
+    Inv-loop
+    μ-loop
+    (λ c κs. search needs)
+    (λ c. (zero-le, laid-none _ _ _))
+    (λ c. search needs)
+    (λ c. search needs)
+    (λ c. search needs)
+    (λ c. search needs)
+    (λ c. search needs)
+    (λ c. (omega arith, laid-more _ _ (c .before .loop .inv .1) refl (omega arith) (c .before .before .part-of .ensures (c .before .loop .d) (omega arith))))
+    (λ c. search needs)
+    returns)

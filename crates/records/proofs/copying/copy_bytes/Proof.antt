@@ -1,52 +1,47 @@
--- `records::copying::copy_bytes` meets its contract: the last few come after the parts. Assumes nothing.
-use mathlib.Core.Path.{_≡_, ap, _∙_}
-use Prim.Native.Nat.{ℕ, _+_, _-_, _*_, _/_}
+-- `records::copying::copy_bytes` meets its contract. The invariant: the parts passed are laid. The measure: the parts left. Assumes nothing.
+use mathlib.Core.Path.{ap}
+use Prim.Native.Nat.{_-_, _*_, _≤_, zero-le}
 use native.Mathlib.Omega.{arith}
 use denote.Ref.{now}
 use borrow.Author.Needs.{needs}
-use Rattle.records.specs.Parts.{byteFrom, laid}
-use Rattle.records.proofs.Laid.{laid-after}
-use Rattle.records.proofs.Parted.{later-byte}
+use Rattle.maps.specs.Record.{byte}
+use Rattle.records.specs.Parts.{byteFrom, Laid}
+use Rattle.records.proofs.Laid.{laid-none, laid-on}
 use Rattle.records.proofs.copying.copy_bytes.Statement.{statement}
 use Rattle.records.proofs.copying.copy_bytes.Tie as tie
 
-mul-done : tie.Need-mul-done
-mul-done c = search needs
+abbrev Inv-loop : tie.InvT-loop
+Inv-loop bytes from count to₀ parts k₀ to k = (k ≤ parts) × Laid (byteFrom bytes from) 0 (128 * k) to₀ to
 
-copy-byte-parts-requires : tie.Need-copy-byte-parts-requires
-copy-byte-parts-requires c κs = search needs
+abbrev μ-loop : tie.MeasureT-loop
+μ-loop bytes from count to₀ parts k₀ to k = parts - k
 
-add-copy-few-bytes : tie.Need-add-copy-few-bytes
-add-copy-few-bytes c = search needs
+loop-again : tie.Need-loop-again Inv-loop μ-loop
+loop-again c =
+    let l = c .before .before .before .before .before in
+    (omega arith, laid-on _ (l .loop .inv .1) (c .before .before .copy-byte-part .ensures) (omega arith) (omega arith) (λ d f. ap (byte (now (l .before .before .before .args .bytes))) (omega arith)))
 
-sub-copy-few-bytes : tie.Need-sub-copy-few-bytes
-sub-copy-few-bytes c = search needs
-
-copy-few-bytes-requires : tie.Need-copy-few-bytes-requires
-copy-few-bytes-requires c κs = search needs
-
-same-length : tie.Need-same-length
-same-length c = search needs
-
-returns : tie.Need-returns
+returns : tie.Need-returns Inv-loop μ-loop
 returns c =
-    let a = c .before .before .before .before .before .before .before .before .before .before .args in
-    let bytes = now (a .bytes) in
-    let done = 128 * (a .count / 128) in
-    let e : done + (a .count - done) ≡ a .count = omega arith in
-    c .before .before .copy-few-bytes .ensures
-    ∙ ap (λ o. laid (byteFrom bytes (a .from + done)) done (a .count - done) o) (c .before .before .before .before .before .before .copy-byte-parts .ensures)
-    ∙ laid-after (byteFrom bytes (a .from + done)) (byteFrom bytes (a .from)) done (a .count - done) (now (a .to)) (λ d ld. later-byte bytes (a .from) done d)
-    ∙ ap (λ (x : ℕ). laid (byteFrom bytes (a .from)) 0 x (now (a .to))) e
+    let l = c .before .before .before .before .before in
+    laid-on _ (l .loop .inv .1) (c .before .before .copy-few-bytes .ensures) (omega arith) (omega arith) (λ d f. ap (byte (now (l .before .before .before .args .bytes))) (omega arith))
 
 pub copy-bytes-spec : {M : Type 1} → statement M
 copy-bytes-spec =
     tie.close
     (tie.spec
-    mul-done
-    copy-byte-parts-requires
-    add-copy-few-bytes
-    sub-copy-few-bytes
-    copy-few-bytes-requires
-    same-length
+    Inv-loop
+    μ-loop
+    (λ c. (zero-le, laid-none _ _ _))
+    (λ c. search needs)
+    (λ c. search needs)
+    (λ c κs. search needs)
+    (λ c. search needs)
+    (λ c. search needs)
+    loop-again
+    (λ c. search needs)
+    (λ c. search needs)
+    (λ c. search needs)
+    (λ c κs. search needs)
+    (λ c. search needs)
     returns)

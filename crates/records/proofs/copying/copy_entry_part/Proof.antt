@@ -1,34 +1,50 @@
--- `records::copying::copy_entry_part` meets its contract: what the part holds is what the body has there. Assumes nothing.
-use mathlib.Core.Path.{ap, _∙_}
-use Prim.Native.Nat.{ℕ}
+-- `records::copying::copy_entry_part` meets its contract. The invariant: the entries passed are laid. The measure: the entries left. Assumes nothing.
+use mathlib.Core.Path.{_≡_, refl}
+use Prim.Native.Nat.{_+_, _-_, _*_, _≤_, zero-le}
 use native.Mathlib.Omega.{arith}
-use lib.ListN.{length-replicate}
-use denote.Ref.{now}
 use borrow.Author.Needs.{needs}
-use Rattle.maps.specs.Table.{listed}
-use Rattle.records.specs.Parts.{byteFrom, twoFrom, laid}
-use Rattle.records.proofs.Laid.{laid-same}
-use Rattle.records.proofs.Parted.{part-entries}
+use Rattle.records.specs.Parts.{twoFrom, Laid}
+use Rattle.records.proofs.Laid.{laid-none, laid-more}
 use Rattle.records.proofs.copying.copy_entry_part.Statement.{statement}
 use Rattle.records.proofs.copying.copy_entry_part.Tie as tie
 
-read-part-requires : tie.Need-read-part-requires
-read-part-requires c κs = (omega arith, length-replicate {A = ℕ} 128 0)
+abbrev Inv-loop : tie.InvT-loop
+Inv-loop bytes from to₀ at part d₀ to d = (d ≤ 64) × Laid (twoFrom bytes from) at d to₀ to
 
-write-entries-requires : tie.Need-write-entries-requires
-write-entries-requires c κs = search needs
+abbrev μ-loop : tie.MeasureT-loop
+μ-loop bytes from to₀ at part d₀ to d = 64 - d
 
-same-length : tie.Need-same-length
-same-length c = search needs
+loop-again : tie.Need-loop-again Inv-loop μ-loop
+loop-again c =
+    let a = c .before .before .before .before .before .before .args in
+    let l = c .before .before .loop in
+    let part = c .before .before .before .part-of .ensures in
+    let z : a .from + (2 * l .d + 1) ≡ a .from + 2 * l .d + 1 = omega arith in
+    let low = part (2 * l .d) (omega arith) in
+    let high = rw z at (part (2 * l .d + 1) (omega arith)) in
+    (omega arith, laid-more _ _ (l .inv .1) refl (omega arith) (omega (arith, c .two-bytes .ensures)))
 
-returns : tie.Need-returns
-returns c =
-    let a = c .before .before .before .before .before .before .before .before .before .args in
-    let bytes = now (a .bytes) in
-    c .before .before .write-entries .ensures
-    ∙ ap (λ part. laid (twoFrom part 0) (a .at) 64 (now (a .to))) (c .before .before .before .before .before .read-part .ensures)
-    ∙ laid-same (twoFrom (listed (byteFrom bytes (a .from)) 128) 0) (twoFrom bytes (a .from)) (a .at) 64 (now (a .to)) (part-entries bytes (a .from))
+returns : tie.Need-returns Inv-loop μ-loop
+returns c = let e : c .before .loop .d ≡ 64 = omega arith in rw e at (c .before .loop .inv .1)
 
 pub copy-entry-part-spec : {M : Type 1} → statement M
 copy-entry-part-spec =
-    tie.close (tie.spec read-part-requires write-entries-requires same-length returns)
+    tie.close
+    (tie.spec
+    Inv-loop
+    μ-loop
+    (λ c κs. search needs)
+    (λ c. (zero-le, laid-none _ _ _))
+    (λ c. search needs)
+    (λ c. search needs)
+    (λ c. search needs)
+    (λ c. search needs)
+    (λ c κs. search needs)
+    (λ c. search needs)
+    (λ c. search needs)
+    (λ c. search needs)
+    (λ c. search needs)
+    (λ c. search needs)
+    loop-again
+    (λ c. search needs)
+    returns)

@@ -1,13 +1,14 @@
--- `rows::marks::fill_marks` meets its contract: the darts passed have their marks. Assumes nothing.
+-- `rows::marks::fill_marks` meets its contract. The invariant: the darts passed have their marks. The measure: the darts left. Assumes nothing.
 use mathlib.Core.Path.{_≡_, refl}
 use Prim.Native.Nat.{ℕ, _-_, _≤_, _<_, zero-le}
 use native.Mathlib.Omega.{arith}
 use lib.ListN.{length, getD, length-set}
 use denote.Ref.{now}
+use borrow.Author.Count.{below-none}
+use borrow.Author.Needs.{needs}
 use Rattle.maps.specs.Table.{each}
 use Rattle.maps.specs.Folded.{marks}
-use Rattle.facts.proofs.Tables.{listed-of, set-below}
-use borrow.Author.Needs.{needs}
+use Rattle.laws.proofs.Tables.{listed-of, set-below}
 use Rattle.rows.proofs.marks.fill_marks.Statement.{statement}
 use Rattle.rows.proofs.marks.fill_marks.Tie as tie
 
@@ -18,36 +19,12 @@ Inv-loop h lambda delta level out₀ d₀ d-end out d =
 abbrev μ-loop : tie.MeasureT-loop
 μ-loop h lambda delta level out₀ d₀ d-end out d = d-end - d
 
-loop-holds : tie.Need-loop-holds Inv-loop μ-loop
-loop-holds c = (refl, zero-le, refl, λ k l. absurd (omega arith))
-
-shared-slice-read-t11 : tie.Need-shared-slice-read-t11 Inv-loop μ-loop
-shared-slice-read-t11 c = search needs
-
-shared-slice-read-t14 : tie.Need-shared-slice-read-t14 Inv-loop μ-loop
-shared-slice-read-t14 c = search needs
-
-mark-at-requires : tie.Need-mark-at-requires Inv-loop μ-loop
-mark-at-requires c κs = search needs
-
-slice-write-out : tie.Need-slice-write-out Inv-loop μ-loop
-slice-write-out c = search needs
-
-add-d : tie.Need-add-d Inv-loop μ-loop
-add-d c = search needs
-
-loop-less : tie.Need-loop-less Inv-loop μ-loop
-loop-less c = search needs
-
 loop-again : tie.Need-loop-again Inv-loop μ-loop
 loop-again c =
     let a = c .before .before .before .before .before .before .before .before .args in
     let l = c .before .before .before .before .loop in
     let f = marks (a .h .0) (each (now (a .lambda))) (each (now (a .delta))) (a .level .0) in
-    (refl, omega arith, simp length-set (l .inv .2), set-below f (l .out) (l .d) (c .mark-at .result) (omega arith) (l .inv .3) (c .mark-at .ensures))
-
-same-length : tie.Need-same-length Inv-loop μ-loop
-same-length c = c .before .loop .inv .2
+    (refl, omega arith, simp length-set (l .inv .2), set-below f (l .out) (l .d) (c .mark-at .result .0) (omega arith) (l .inv .3) (c .mark-at .ensures))
 
 returns : tie.Need-returns Inv-loop μ-loop
 returns c =
@@ -61,13 +38,13 @@ fill-marks-spec =
     (tie.spec
     Inv-loop
     μ-loop
-    loop-holds
-    shared-slice-read-t11
-    shared-slice-read-t14
-    mark-at-requires
-    slice-write-out
-    add-d
-    loop-less
+    (λ c. (refl, zero-le, refl, below-none _))
+    (λ c. search needs)
+    (λ c. search needs)
+    (λ c κs. search needs)
+    (λ c. search needs)
+    (λ c. search needs)
+    (λ c. search needs)
     loop-again
-    same-length
+    (λ c. search needs)
     returns)

@@ -1,16 +1,15 @@
--- `rows::words::first_above` meets its contract: no dart passed is refused. Assumes nothing.
+-- `rows::words::first_above` meets its contract. The invariant: no dart passed is refused. The measure: the darts left. Assumes nothing.
 use mathlib.Core.Path.{_≡_, refl, sym}
 use mathlib.Core.List.{[]}
 use Prim.Native.Nat.{_-_, _≤_, zero-le}
 use native.Mathlib.Omega.{arith}
 use denote.Ref.{now}
 use borrow.Author.Tests.{lt-ltb, le-ltb}
+use borrow.Author.Needs.{needs}
 use Rattle.maps.specs.Verdict.{accepted, scan}
 use Rattle.maps.specs.Table.{each}
 use Rattle.maps.specs.Survivors.{atLambda8}
-use Rattle.facts.proofs.Verdicts.{scan-first}
-use Rattle.rows.proofs.Accepted.{scan-more}
-use borrow.Author.Needs.{needs}
+use Rattle.laws.proofs.Verdicts.{scan-first, scan-more}
 use Rattle.rows.proofs.words.first_above.Statement.{statement}
 use Rattle.rows.proofs.words.first_above.Tie as tie
 
@@ -24,12 +23,6 @@ loop-holds : tie.Need-loop-holds Inv-loop μ-loop
 unfolding scan
 loop-holds c = (zero-le, refl)
 
-cast-if1 : tie.Need-cast-if1 Inv-loop μ-loop
-cast-if1 c = search needs
-
-shared-slice-read-if1 : tie.Need-shared-slice-read-if1 Inv-loop μ-loop
-shared-slice-read-if1 c = search needs
-
 returns : tie.Need-returns Inv-loop μ-loop
 unfolding atLambda8
 returns c =
@@ -37,12 +30,6 @@ returns c =
     let l = c .before .before .before .before .loop in
     let v = atLambda8 (a .darts) (a .h .0) (now (a .lambda)) (a .level .0) [] in
     sym (scan-first (a .darts) v (l .d) 8 (a .level .0) 0 (l .d) (omega arith) (l .inv .1) (rw (lt-ltb (a .h .0) (each (now (a .lambda)) (l .d)) (c .if1 .taken))))
-
-add-d : tie.Need-add-d Inv-loop μ-loop
-add-d c = search needs
-
-loop-less : tie.Need-loop-less Inv-loop μ-loop
-loop-less c = search needs
 
 loop-again : tie.Need-loop-again Inv-loop μ-loop
 unfolding atLambda8
@@ -54,9 +41,8 @@ loop-again c =
 
 returns-2 : tie.Need-returns-2 Inv-loop μ-loop
 returns-2 c =
-    let a = c .before .before .args in
     let l = c .before .loop in
-    let e : l .d ≡ a .darts = omega arith in
+    let e : l .d ≡ c .before .before .args .darts = omega arith in
     sym (rw e at (l .inv .1))
 
 pub first-above-spec : {M : Type 1} → statement M
@@ -66,10 +52,10 @@ first-above-spec =
     Inv-loop
     μ-loop
     loop-holds
-    cast-if1
-    shared-slice-read-if1
+    (λ c. search needs)
+    (λ c. search needs)
     returns
-    add-d
-    loop-less
+    (λ c. search needs)
+    (λ c. search needs)
     loop-again
     returns-2)

@@ -1,0 +1,140 @@
+// What a mark lets a walk do, and number 8: the marks of a dart, and of all darts. Assumes nothing.
+use super::Check;
+use super::Dim;
+use super::Level;
+use super::Mark;
+use super::Passage;
+use super::Refusal;
+ghost use mathlib.Core.Path.{_≡_};
+ghost use mathlib.Core.Bool.{true, false};
+ghost use mathlib.Core.List.{[]};
+ghost use Prim.Native.Nat.{ℕ, _<_, _≤_};
+ghost use lib.ListN.{length};
+ghost use Rattle.maps.specs.Verdict.{scan};
+ghost use Rattle.maps.specs.Mark.{isMark, stay, between as betweenOf, hasBeyond, beyond as beyondOf, canPass, across as acrossOf};
+ghost use Rattle.maps.specs.Table.{each};
+ghost use Rattle.maps.specs.Folded.{refusedMarks};
+ghost use Rattle.maps.specs.MarksBack.{atMarks8};
+ghost use Rattle.answers.specs.Numbers.{verdictOf};
+ghost use Rattle.answers.specs.Marked.{marksRefusal};
+
+// Is a byte a mark?
+pub fn is_mark(n: Dim, mark: Mark) -> bool
+    ensures { λ r. ⌜ r ≡ isMark (n .0) (mark .0) ⌝ }
+{
+    mark.0 < n.0
+}
+
+// The two rows between which a mark lets a walk pass.
+pub fn between(mark: Mark) -> Passage
+    requires { ⌜ mark .0 < stay ⌝ }
+    ensures { λ r. ⌜ (r .0 .0 ≡ betweenOf (mark .0) .0) × (r .1 .0 ≡ betweenOf (mark .0) .1) ⌝ }
+{
+    Passage(Dim(mark.0), Dim(mark.0 + 1))
+}
+
+// May a walk that came by row t pass a dart of this mark?
+pub fn can_pass(mark: Mark, t: Dim) -> bool
+    requires { ⌜ mark .0 < stay ⌝ }
+    ensures { λ r. ⌜ r ≡ canPass (mark .0) (t .0) ⌝ }
+{
+    let rows = between(mark);
+    if t.0 == rows.0.0 {
+        return true;
+    }
+    t.0 == rows.1.0
+}
+
+// The row by which it then goes on.
+pub fn across(mark: Mark, t: Dim) -> Dim
+    requires { ⌜ mark .0 < stay ⌝ }
+    ensures { λ r. ⌜ r .0 ≡ acrossOf (mark .0) (t .0) ⌝ }
+{
+    let rows = between(mark);
+    if t.0 == rows.0.0 {
+        return rows.1;
+    }
+    rows.0
+}
+
+// Has the map a row that has to commute with the second of them?
+pub fn has_beyond(n: Dim, mark: Mark) -> bool
+    ensures { λ r. ⌜ r ≡ hasBeyond (n .0) (mark .0) ⌝ }
+{
+    if n.0 <= mark.0 {
+        return false;
+    }
+    mark.0 + 1 < n.0
+}
+
+// That row.
+pub fn beyond(n: Dim, mark: Mark) -> Dim
+    requires { ⌜ (n .0 ≤ 4) × (hasBeyond (n .0) (mark .0) ≡ true) ⌝ }
+    ensures { λ r. ⌜ r .0 ≡ beyondOf (mark .0) ⌝ }
+{
+    Dim(mark.0 + 2)
+}
+
+// Number 8 of one dart: are its marks refused?
+pub fn marks_refused(n: Dim, h: Level, lambda: Level, delta: Mark) -> bool
+    ensures { λ r. ⌜ r ≡ refusedMarks (n .0) (h .0) (lambda .0) (delta .0) ⌝ }
+{
+    if lambda.0 < h.0 {
+        return !is_mark(n, delta);
+    }
+    if h.0 < lambda.0 {
+        return true;
+    }
+    delta.0 != n.0
+}
+
+// Are the marks of any dart refused? No branch for each dart, so that many are tested at once.
+fn any_refused(n: Dim, h: Level, lambda: &[u8], delta: &[u8]) -> bool
+    requires { ⌜ length (now delta) ≡ length (now lambda) ⌝ }
+    ensures { λ r. ⌜ (r ≡ false → (x : ℕ) → x < length (now (lambda .entry)) → refusedMarks (n .0) (h .0) (each (now (lambda .entry)) x) (each (now (delta .entry)) x) ≡ false) ⌝ }
+{
+    let mut any = false;
+    for at in 0..lambda.len() {
+        let refused = marks_refused(n, h, Level(lambda[at]), Mark(delta[at]));
+        any = any | refused;
+    }
+    any
+}
+
+// The first dart whose marks are refused.
+fn first_refused(n: Dim, darts: u16, h: Level, lambda: &[u8], delta: &[u8], level: Level) -> Check
+    requires { ⌜ (length (now lambda) ≡ darts) × (length (now delta) ≡ darts) ⌝ }
+    ensures { λ r. ⌜ verdictOf r ≡ scan darts (atMarks8 (n .0) darts (h .0) (now (lambda .entry)) (now (delta .entry)) (level .0) []) ⌝ }
+{
+    for d in 0..darts {
+        let at = d as usize;
+        if marks_refused(n, h, Level(lambda[at]), Mark(delta[at])) {
+            return Check::Refused(Refusal::Marks(level, Dim(0), d));
+        }
+    }
+    Check::Accepted
+}
+
+// Number 8 over all darts; the dart is sought only if there is one.
+pub fn marks_refusal(
+    n: Dim,
+    darts: u16,
+    h: Level,
+    lambda: &[u8],
+    delta: &[u8],
+    level: Level,
+) -> Check
+    ensures { λ r. ⌜ verdictOf r ≡ marksRefusal (n .0) darts (h .0) (now (lambda .entry)) (now (delta .entry)) (level .0) ⌝ }
+{
+    let width = darts as usize;
+    if lambda.len() != width {
+        return Check::Refused(Refusal::Length);
+    }
+    if delta.len() != width {
+        return Check::Refused(Refusal::Length);
+    }
+    if any_refused(n, h, lambda, delta) {
+        return first_refused(n, darts, h, lambda, delta, level);
+    }
+    Check::Accepted
+}

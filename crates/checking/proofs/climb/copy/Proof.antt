@@ -1,0 +1,63 @@
+-- `checking::climb::copy` meets its contract. The invariant: the entries passed are those of the base. The measure is the entries left. Assumes nothing.
+use mathlib.Core.Path.{refl}
+use Prim.Native.Nat.{_-_, _≤_, zero-le}
+use native.Mathlib.Omega.{arith}
+use lib.ListN.{length}
+use borrow.Author.Needs.{needs}
+use Rattle.maps.specs.Table.{each}
+use Rattle.checking.proofs.Rows.{RowTo, row-none, row-set, row-copied}
+use Rattle.checking.proofs.climb.copy.Statement.{statement}
+use Rattle.checking.proofs.climb.copy.Tie as tie
+
+abbrev Inv-loop : tie.InvT-loop
+Inv-loop rows table₀ k₀ k-end table k = (k ≤ length rows) × RowTo (each rows) k table₀ table
+
+abbrev μ-loop : tie.MeasureT-loop
+μ-loop rows table₀ k₀ k-end table k = length rows - k
+
+loop-holds : tie.Need-loop-holds Inv-loop μ-loop
+loop-holds c = (zero-le, row-none _ _)
+
+mul-table : tie.Need-mul-table Inv-loop μ-loop
+mul-table c = search needs
+
+shared-slice-read-table : tie.Need-shared-slice-read-table Inv-loop μ-loop
+shared-slice-read-table c = search needs
+
+mul-table-2 : tie.Need-mul-table-2 Inv-loop μ-loop
+mul-table-2 c = search needs
+
+slice-write-table : tie.Need-slice-write-table Inv-loop μ-loop
+slice-write-table c = search needs
+
+add-k : tie.Need-add-k Inv-loop μ-loop
+add-k c = search needs
+
+loop-less : tie.Need-loop-less Inv-loop μ-loop
+loop-less c = search needs
+
+loop-again : tie.Need-loop-again Inv-loop μ-loop
+loop-again c = (omega arith, row-set (c .before .before .loop .inv .1) (omega arith) _ refl)
+
+same-length : tie.Need-same-length Inv-loop μ-loop
+same-length c = c .before .loop .inv .1 .long
+
+returns : tie.Need-returns Inv-loop μ-loop
+returns c = row-copied (c .before .loop .inv .1) (c .before .before .pre) (c .loop-test .left)
+
+pub copy-spec : {M : Type 1} → statement M
+copy-spec =
+    tie.close
+    (tie.spec
+    Inv-loop
+    μ-loop
+    loop-holds
+    mul-table
+    shared-slice-read-table
+    mul-table-2
+    slice-write-table
+    add-k
+    loop-less
+    loop-again
+    same-length
+    returns)

@@ -1,0 +1,70 @@
+-- What the tests and the removal of one kernel ask of the level's table and the mark row, and what they leave. Assumes nothing: these are definitions.
+use mathlib.Core.Path.{_≡_}
+use mathlib.Core.Bool.{Bool, true, cond, _&&_, not}
+use mathlib.Core.List.{List}
+use Prim.Native.Nat.{ℕ, suc, _+_, _*_, _<_, _≤_}
+use lib.ListN.{length}
+use lib.Dec.{ltb}
+use Rattle.maps.specs.Verdict.{ifAccepted}
+use Rattle.maps.specs.Mark.{isMark, between}
+use Rattle.maps.specs.Kernel.{Kernel}
+use Rattle.maps.specs.Removal.{goOn, removal}
+use Rattle.maps.specs.Table.{entry, absent, explicit}
+use Rattle.maps.specs.Check.{checkKernel}
+use Rattle.maps.specs.CheckBase.{present}
+use Rattle.facts.proofs.Checks.{There, Sound}
+
+-- sizes in range, and the length that goes with them
+pub record Shape (n N : ℕ) (table : List ℕ) : Type 0 where
+  pub dimension : n ≤ 4
+  pub darts : N ≤ 4096
+  pub long : length table ≡ suc n * N
+
+-- the entry of row i and dart d lies in the table, and its place is small
+pub record Place (N : ℕ) (table : List ℕ) (i d : ℕ) : Type 0 where
+  pub darts : N ≤ 4096
+  pub dart : d < N
+  pub inside : i * N + d < length table
+  pub small : length table ≤ 20480
+
+-- an explicit level, and a mark row that marks only darts present
+pub record Tested (n N : ℕ) (mark : ℕ → ℕ) (table : List ℕ) : Type 0 where
+  pub shape : Shape n N table
+  pub sound : Sound (entry N table) n N (present N table)
+  pub marked : (d : ℕ) → d < N → isMark n (mark d) ≡ true → present N table d ≡ true
+
+-- and the row is a kernel of the level
+pub record Ready (n N : ℕ) (mark : ℕ → ℕ) (table : List ℕ) : Type 0 where
+  pub tested : Tested n N mark table
+  pub kernel : Kernel (entry N table) n (There (entry N table) n N (present N table)) mark
+
+-- what following the marks asks: from a dart marked every involution leads to a dart, and the one that passes it to a dart of the same mark
+pub record Followed (n N : ℕ) (mark : ℕ → ℕ) (table : List ℕ) : Type 0 where
+  pub shape : Shape n N table
+  pub inside : (t d : ℕ) → t ≤ n → d < N → isMark n (mark d) ≡ true → entry N table t d < N
+  pub whole : (d : ℕ) → d < N → isMark n (mark d) ≡ true → mark (entry N table (between (mark d) .1) d) ≡ mark d
+
+-- the darts that the removal leaves
+abbrev pub left : ℕ → ℕ → (ℕ → ℕ) → List ℕ → ℕ → Bool
+left n N mark table d = present N table d && not (isMark n (mark d))
+
+-- an entry below N of a dart that is not marked leads on past the marks; every other entry stays
+unfoldable pub relinked : ℕ → ℕ → (ℕ → ℕ) → List ℕ → ℕ → ℕ → ℕ
+relinked n N mark table i d = cond (ltb (entry N table i d) N && not (isMark n (mark d))) (goOn (entry N table) n mark N i (entry N table i d)) (entry N table i d)
+
+-- the table after, with f at every entry
+pub record TableIs (N : ℕ) (f : ℕ → ℕ → ℕ) (before after : List ℕ) : Type 0 where
+  pub long : length after ≡ length before
+  pub rows : (t d : ℕ) → d < N → entry N after t d ≡ f t d
+
+-- the table after, with 65,535 at the entries that pass the test; the others are as before
+abbrev pub Cleared : ℕ → (ℕ → ℕ → Bool) → List ℕ → List ℕ → Type 0
+Cleared N test before after = TableIs N (λ t d. cond (test t d) absent (entry N before t d)) before after
+
+-- what is left where the kernel is removed
+abbrev pub removedFrom : ℕ → ℕ → (ℕ → ℕ) → List ℕ → List ℕ
+removedFrom n N mark table = explicit (removal (entry N table) n mark N) n N (left n N mark table)
+
+-- a kernel accepted is removed; refused, the table stays
+abbrev pub stepLeaves : ℕ → ℕ → ℕ → (ℕ → ℕ) → List ℕ → List ℕ
+stepLeaves n N l mark table = ifAccepted (checkKernel (entry N table) n N mark l) (removedFrom n N mark table) table

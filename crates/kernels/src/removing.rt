@@ -1,0 +1,124 @@
+// One kernel removed in place: survivors' entries are rewritten while the entries of the kernel's darts still stand, and these become 65,535 when all walks have ended.
+use super::strings::at;
+use super::strings::mark_of;
+use super::strings::next_of;
+use super::strings::removed;
+use answers::Dim;
+use answers::Level;
+ghost use mathlib.Core.Path.{_≡_};
+ghost use mathlib.Core.Bool.{Bool, _&&_};
+ghost use Prim.Native.Nat.{ℕ, _+_, _*_, _<_, _≤_};
+ghost use lib.ListN.{set};
+ghost use lib.Dec.{eqb, ltb};
+ghost use Rattle.maps.specs.Removal.{goOn};
+ghost use Rattle.maps.specs.Table.{entry};
+ghost use Rattle.kernels.specs.Strings.{kernelRow, Along, Strings, Marks, Strung};
+ghost use Rattle.kernels.specs.Ready.{Shape, Place, Ready, Followed, relinked, TableIs, Cleared, removedFrom};
+
+// The entry of dart d in row i is stored.
+fn put(darts: usize, i: Dim, d: usize, entry: u16, table: &mut [u16])
+    requires { ⌜ Place darts (now table) (i .0) d ⌝ }
+    ensures { λ _. ⌜ now (table .exit) ≡ set (now (table .entry)) (i .0 * darts + d) entry ⌝ }
+{
+    table[i.0 as usize * darts + d] = entry;
+}
+
+// From dart start, while there is a dart of kernel l whose mark has the first row i: on by the second row of that mark, then by row i.
+fn follow(
+    n: Dim,
+    darts: usize,
+    l: Level,
+    lambda: &[u8],
+    delta: &[u8],
+    table: &[u16],
+    i: Dim,
+    start: usize,
+) -> usize
+    requires { ⌜ Marks (n .0) darts (l .0) (now lambda) (now delta) × Followed (n .0) darts (kernelRow (now lambda) (now delta) (l .0)) (now table) ⌝ }
+    requires { ⌜ (i .0 ≤ n .0) × (start < darts) ⌝ }
+    ensures { λ r. ⌜ (r ≡ goOn (entry darts (now (table .entry))) (n .0) (kernelRow (now (lambda .entry)) (now (delta .entry)) (l .0)) darts (i .0) start) × (r < darts) ⌝ }
+{
+    let mut times = darts;
+    let mut e = start;
+    while 0 < times {
+        if !removed(lambda, l, e) {
+            return e;
+        }
+        let rows = answers::between(mark_of(delta, e));
+        if rows.0.0 != i.0 {
+            return e;
+        }
+        e = at(darts, table, i, at(darts, table, rows.1, e));
+        times = times - 1;
+    }
+    e
+}
+
+// Survivors relinked, from the darts of kernel l: where one leads to a survivor by its mark's first row, the survivor's entry leads on past the marks.
+fn relink(
+    n: Dim,
+    darts: usize,
+    l: Level,
+    lambda: &[u8],
+    delta: &[u8],
+    next: &[u16; 4096],
+    first: u16,
+    table: &mut [u16],
+)
+    requires { ⌜ Ready (n .0) darts (kernelRow (now lambda) (now delta) (l .0)) (now table) ⌝ }
+    requires { ⌜ Strung (n .0) darts (l .0) first (now lambda) (now delta) (now next) ⌝ }
+    ensures { λ _. ⌜ TableIs darts (relinked (n .0) darts (kernelRow (now (lambda .entry)) (now (delta .entry)) (l .0)) (now (table .entry))) (now (table .entry)) (now (table .exit)) ⌝ }
+{
+    let mut d = first as usize;
+    while d < darts {
+        let rows = answers::between(mark_of(delta, d));
+        let i = rows.0;
+        let b = at(darts, table, i, d);
+        if !removed(lambda, l, b) {
+            let end = follow(n, darts, l, lambda, delta, table, i, d);
+            put(darts, i, b, end as u16, table);
+        }
+        d = next_of(next, d);
+    }
+}
+
+// Row i cleared: 65,535 at the darts strung from the first on, whichever these are.
+fn clear_row(darts: usize, next: &[u16; 4096], first: u16, i: Dim, table: &mut [u16])
+    requires { ⌜ Strings darts first (now next) × ((d : ℕ) → d < darts → Place darts (now table) (i .0) d) ⌝ }
+    ensures { λ _. ⌜ ((test : ℕ → Bool) → Along test darts first (now (next .entry)) → Cleared darts (λ t d. test d && eqb t (i .0)) (now (table .entry)) (now (table .exit))) ⌝ }
+{
+    let mut d = first as usize;
+    while d < darts {
+        put(darts, i, d, 65535, table);
+        d = next_of(next, d);
+    }
+}
+
+// Every row cleared.
+fn clear(n: Dim, darts: usize, next: &[u16; 4096], first: u16, table: &mut [u16])
+    requires { ⌜ Strings darts first (now next) × Shape (n .0) darts (now table) ⌝ }
+    ensures { λ _. ⌜ ((test : ℕ → Bool) → Along test darts first (now (next .entry)) → Cleared darts (λ t d. test d && ltb t (n .0 + 1)) (now (table .entry)) (now (table .exit))) ⌝ }
+{
+    for i in 0..n.0 + 1 {
+        clear_row(darts, next, first, Dim(i), table);
+    }
+}
+
+// The kernel removed in place.
+pub fn remove(
+    n: Dim,
+    darts: usize,
+    l: Level,
+    lambda: &[u8],
+    delta: &[u8],
+    next: &[u16; 4096],
+    first: u16,
+    table: &mut [u16],
+)
+    requires { ⌜ Ready (n .0) darts (kernelRow (now lambda) (now delta) (l .0)) (now table) ⌝ }
+    requires { ⌜ Strung (n .0) darts (l .0) first (now lambda) (now delta) (now next) ⌝ }
+    ensures { λ _. ⌜ now (table .exit) ≡ removedFrom (n .0) darts (kernelRow (now (lambda .entry)) (now (delta .entry)) (l .0)) (now (table .entry)) ⌝ }
+{
+    relink(n, darts, l, lambda, delta, next, first, table);
+    clear(n, darts, next, first, table);
+}

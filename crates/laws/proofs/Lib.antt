@@ -1,0 +1,5 @@
+pub mod Counting
+pub mod Verdicts
+pub mod Tables
+pub mod Sizes
+pub mod Marks

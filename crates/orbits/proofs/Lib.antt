@@ -1,0 +1,4 @@
+pub mod Orbits
+pub mod Choices
+pub mod Sets
+mod Searches

@@ -1,0 +1,58 @@
+// What both readings are asked and answer: a neighbour with its count, or a refusal. Assumes nothing.
+use answers::Check;
+use answers::Dim;
+use answers::Level;
+use answers::Mark;
+use answers::Question;
+use answers::Refusal;
+ghost use mathlib.Core.Path.{_≡_};
+ghost use Rattle.maps.specs.Read.{question as questionOf};
+ghost use Rattle.answers.specs.Numbers.{verdictOf};
+
+// A neighbour, and the number of base entries read on the way to it.
+pub struct Neighbour {
+    pub dart: u16,
+    pub count: u32,
+}
+
+// A neighbour, or a refusal.
+pub enum Reading {
+    Found(Neighbour),
+    Refused(Refusal),
+}
+
+// What is tested before a walk: 1, 2, 3, 4, 11, 13, then 12, 8 and 12 of the starting dart.
+pub fn question(
+    n: Dim,
+    darts: u16,
+    h: Level,
+    rows: &[u16],
+    lambda: &[u8],
+    delta: &[u8],
+    asked: Question,
+) -> Check
+    ensures { λ r. ⌜ verdictOf r ≡ questionOf (n .0) darts (h .0) (now (rows .entry)) (now (lambda .entry)) (now (delta .entry)) (asked .level .0) (asked .involution .0) (asked .dart) ⌝ }
+{
+    let fit = answers::pyramid_fits(n, darts, rows.len(), lambda.len(), delta.len());
+    if let Check::Refused(r) = answers::asked(n, darts, h, fit, asked) {
+        return Check::Refused(r);
+    }
+    let level = asked.level;
+    let involution = asked.involution;
+    let dart = asked.dart;
+    if n.0 < involution.0 {
+        return Check::Refused(Refusal::NoInvolution(level, involution, dart));
+    }
+    if darts <= dart {
+        return Check::Refused(Refusal::NoDart(level, involution, dart));
+    }
+    let at = dart as usize;
+    let own = Level(lambda[at]);
+    if answers::marks_refused(n, h, own, Mark(delta[at])) {
+        return Check::Refused(Refusal::Marks(level, involution, dart));
+    }
+    if own.0 < level.0 {
+        return Check::Refused(Refusal::NoDart(level, involution, dart));
+    }
+    Check::Accepted
+}

@@ -1,0 +1,182 @@
+-- `reading::filling::fill` meets its contract. The invariant of both loops: the table is filled so far, and no walk so far was refused. The measures: the rows and the darts that are left. Assumes nothing.
+use mathlib.Core.Path.{_≡_, refl, sym}
+use mathlib.Core.Logic.{⊎-elim}
+use Prim.Native.Nat.{_+_, _-_, _*_, _≤_, _<_, zero-le}
+use native.Mathlib.Omega.{arith}
+use lib.ListN.{length}
+use denote.Ref.{now}
+use Rattle.maps.specs.Table.{entry}
+use borrow.Author.Needs.{needs}
+use Rattle.laws.proofs.Tables.{in-table, table-size}
+use Rattle.reading.specs.declared.filling.Stop.the-variants.{Nowhere}
+use Rattle.reading.proofs.Walking.{Next, next-first, strays, arrives}
+use Rattle.reading.proofs.Filled.{Filled, filled-none, filled-row, filled-all, filled-absent, filled-end, filled-missed}
+use Rattle.reading.proofs.filling.fill.Statement.{statement}
+use Rattle.reading.proofs.filling.fill.Tie as tie
+
+abbrev Inv-loop : tie.InvT-loop
+Inv-loop n darts h rows lambda delta level table₀ stop₀ total₀ i d₀ i-end table stop total d = (d ≤ darts) × (i < i-end) × Filled (n .0) darts (h .0) rows lambda delta (level .0) i d total table × (stop ≡ Nowhere)
+
+abbrev μ-loop : tie.MeasureT-loop
+μ-loop n darts h rows lambda delta level table₀ stop₀ total₀ i d₀ i-end table stop total d = darts - d
+
+abbrev Inv-rows : tie.InvT-rows
+Inv-rows n darts h rows lambda delta level table₀ stop₀ total₀ i₀ i-end table stop total i = (i ≤ i-end) × Filled (n .0) darts (h .0) rows lambda delta (level .0) i 0 total table × (stop ≡ Nowhere)
+
+abbrev μ-rows : tie.MeasureT-rows
+μ-rows n darts h rows lambda delta level table₀ stop₀ total₀ i₀ i-end table stop total i = i-end - i
+
+-- where the function starts, from a turn of the inner loop
+abbrev start : tie.In-loop Inv-loop μ-loop Inv-rows μ-rows → tie.Start Inv-loop μ-loop Inv-rows μ-rows
+start c = c .before .before .before .before .before .before .before .before .before
+
+-- a turn of the inner loop, from where the entry read is a dart
+abbrev turn : tie.Else2 Inv-loop μ-loop Inv-rows μ-rows → tie.In-loop Inv-loop μ-loop Inv-rows μ-rows
+turn c = c .before .before .before .before .before
+
+-- the row is one of the map, the place lies in rows and table, and every number on the way is small
+place : (c : tie.In-loop Inv-loop μ-loop Inv-rows μ-rows) → let a = start c .args in let i = c .before .before .before .rows .i in let at = i * a .darts + c .before .loop .d in
+    (i ≤ a .n .0) × (i * a .darts ≤ 16384) × (at < 20480) × (at < length (now (a .rows))) × (at < length (c .before .loop .table)) × (c .before .loop .total ≤ 8193 * 20480)
+place c =
+    let a = start c .args in
+    let p = start c .pre .0 .lent in
+    let i = c .before .before .before .rows .i in
+    let li : i ≤ a .n .0 = omega (arith, c .before .loop .inv .1) in
+    let z = table-size (a .n .0) (a .darts) i (p .dimension) (p .darts) li in
+    let y = in-table (a .n .0) (a .darts) i (c .before .loop .d) li (c .loop-test .taken) in
+    let s = c .before .loop .inv .2 in
+    (li, z .0, omega arith, omega (arith, p .rows-length), omega (arith, s .size), omega (arith, s .small))
+
+-- the walk of the dart by the row begins
+first : (c : tie.In-loop Inv-loop μ-loop Inv-rows μ-rows) → let a = start c .args in let i = c .before .before .before .rows .i in let d = c .before .loop .d in
+    Next (now (a .rows)) (now (a .lambda)) (now (a .delta)) (a .n .0) (a .darts) (a .h .0) (a .level .0) i d i d 0
+first c = next-first (place c .0) (c .loop-test .taken)
+
+rows-holds : tie.Need-rows-holds Inv-loop μ-loop Inv-rows μ-rows
+rows-holds c = (zero-le, filled-none (c .before .before .before .before .before .pre .1), refl)
+
+loop-holds : tie.Need-loop-holds Inv-loop μ-loop Inv-rows μ-rows
+loop-holds c = let v = c .before .rows .inv in (zero-le, c .rows-test .taken, v .1, v .2)
+
+mul-place : tie.Need-mul-place Inv-loop μ-loop Inv-rows μ-rows
+mul-place c = omega (arith, place c)
+
+add-place : tie.Need-add-place Inv-loop μ-loop Inv-rows μ-rows
+add-place c = omega (arith, place c)
+
+mul-table : tie.Need-mul-table Inv-loop μ-loop Inv-rows μ-rows
+mul-table c = omega (arith, place (c .before .before .before))
+
+slice-write-table : tie.Need-slice-write-table Inv-loop μ-loop Inv-rows μ-rows
+slice-write-table c = omega (arith, place (c .before .before .before))
+
+mul-e : tie.Need-mul-e Inv-loop μ-loop Inv-rows μ-rows
+mul-e c = omega (arith, place (c .before .before .before))
+
+shared-slice-read-e : tie.Need-shared-slice-read-e Inv-loop μ-loop Inv-rows μ-rows
+shared-slice-read-e c = omega (arith, place (c .before .before .before .before))
+
+mul-table-2 : tie.Need-mul-table-2 Inv-loop μ-loop Inv-rows μ-rows
+mul-table-2 c = omega (arith, place (turn (c .before .before .before)))
+
+slice-write-table-2 : tie.Need-slice-write-table-2 Inv-loop μ-loop Inv-rows μ-rows
+slice-write-table-2 c = omega (arith, place (turn (c .before .before .before)))
+
+add-total : tie.Need-add-total Inv-loop μ-loop Inv-rows μ-rows
+add-total c = omega (arith, place (turn (c .before .before .before)))
+
+onward-requires : tie.Need-onward-requires Inv-loop μ-loop Inv-rows μ-rows
+onward-requires c κs =
+    let t = turn (c .before .before .before) in
+    (start t .pre .0, record { row = place t .0; start = t .loop-test .taken; read = refl; dart = c .before .before .before .if2 .left; gone = c .if3 .left })
+
+mul-table-3 : tie.Need-mul-table-3 Inv-loop μ-loop Inv-rows μ-rows
+mul-table-3 c = omega (arith, place (turn (c .before .before .before .before .before .before .before)))
+
+slice-write-table-3 : tie.Need-slice-write-table-3 Inv-loop μ-loop Inv-rows μ-rows
+slice-write-table-3 c = omega (arith, place (turn (c .before .before .before .before .before .before .before)))
+
+add-total-2 : tie.Need-add-total-2 Inv-loop μ-loop Inv-rows μ-rows
+add-total-2 c =
+    let f = rw (c .before .before .end .given .1) at (c .before .before .before .before .onward .ensures) in
+    omega (arith, place (turn (c .before .before .before .before .before .before .before .before)), f .few)
+
+loop-again : tie.Need-loop-again Inv-loop μ-loop Inv-rows μ-rows
+loop-again c =
+    let t = c .before .before .before in
+    let p = start t .pre .0 in
+    let v = t .before .loop .inv in
+    let e = entry (start t .args .darts) (now (start t .args .rows)) (t .before .before .before .rows .i) (t .before .loop .d) in (
+      omega arith,
+      v .1,
+      ⊎-elim
+          (λ w. filled-absent (v .2) (place t .0) (t .loop-test .taken) (w .0 .taken) (w .1) (w .2))
+          (⊎-elim
+          (λ w. filled-end (v .2) (place t .0) (t .loop-test .taken) (w .0 .left) {end = record { dart = e; count = 1 }} (p .lent .darts) record { row = t .before .before .before .rows .i; is = arrives (first t) refl (w .2 .left) (sym (p .allowed e (w .2 .left))) refl (w .5 .taken); few = omega arith } (w .6) (w .7))
+          (λ w. filled-end (v .2) (place t .0) (t .loop-test .taken) (w .0 .left) (p .lent .darts) (rw (w .8 .given .1) at (w .6 .ensures)) (w .11) (w .12)))
+          (c .if1 .came),
+      v .3,
+    )
+
+rows-again : tie.Need-rows-again Inv-loop μ-loop Inv-rows μ-rows
+rows-again c = let v = c .before .loop .inv in (omega arith, filled-row (v .2) (omega arith), v .3)
+
+returns : tie.Need-returns Inv-loop μ-loop Inv-rows μ-rows
+returns c = let v = c .before .rows .inv in filled-all (v .1) (omega arith) refl (v .2)
+
+returns-2 : tie.Need-returns-2 Inv-loop μ-loop Inv-rows μ-rows
+returns-2 c =
+    let t = c .before .before .before .before .before in
+    let i = t .before .before .before .rows .i in
+    filled-missed (t .before .loop .inv .2) (place t .0) (t .loop-test .taken) (c .before .before .if1 .left) record { number = 5; row = i; dart = t .before .loop .d; is = strays (first t) refl (c .if2 .taken); said = refl }
+
+returns-3 : tie.Need-returns-3 Inv-loop μ-loop Inv-rows μ-rows
+returns-3 c =
+    let e = c .before .before .before .before .before .before .before in
+    let t = turn e in
+    filled-missed (t .before .loop .inv .2) (place t .0) (t .loop-test .taken) (e .before .before .if1 .left) (rw (c .before .why .given .1) at (c .before .before .before .onward .ensures))
+
+pub fill-spec : {M : Type 1} → statement M
+fill-spec =
+    tie.close
+    (tie.spec
+    Inv-loop
+    μ-loop
+    Inv-rows
+    μ-rows
+    (λ c. search needs)
+    rows-holds
+    loop-holds
+    (λ c. search needs)
+    mul-place
+    (λ c. search needs)
+    add-place
+    (λ c. search needs)
+    (λ c. search needs)
+    mul-table
+    slice-write-table
+    mul-e
+    shared-slice-read-e
+    (λ c. search needs)
+    (λ c. search needs)
+    mul-table-2
+    slice-write-table-2
+    add-total
+    onward-requires
+    (λ c. search needs)
+    mul-table-3
+    slice-write-table-3
+    add-total-2
+    (λ c. search needs)
+    (λ c. search needs)
+    (λ c. search needs)
+    loop-again
+    (λ c. search needs)
+    (λ c. search needs)
+    rows-again
+    (λ c. search needs)
+    returns
+    (λ c. search needs)
+    returns-2
+    (λ c. search needs)
+    returns-3)

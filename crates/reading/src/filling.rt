@@ -1,0 +1,149 @@
+// The walks of a level into a table, over rows, then darts, left at the first refusal. Assumes nothing.
+use super::Total;
+use answers::Dim;
+use answers::Level;
+use answers::Mark;
+use answers::Refusal;
+use questions::Neighbour;
+ghost use mathlib.Core.Path.{_≡_};
+ghost use Prim.Native.Nat.{suc, _*_};
+ghost use lib.ListN.{length};
+ghost use Rattle.maps.specs.Verdict.{ifAccepted};
+ghost use Rattle.maps.specs.Table.{entry, each, listed, absent};
+ghost use Rattle.maps.specs.Walk.{walk as walkOf};
+ghost use Rattle.reading.specs.Answers.{checkOf, totalOf};
+ghost use Rattle.reading.specs.Walks.{Allowed, Meets, stopOf, Tells, Leaves};
+
+// Where and why the walks of a level stop: 15, 5 or 14, with row and dart.
+pub enum Stop {
+    Nowhere,
+    Long(Dim, u16),
+    Strays(Dim, u16),
+    NoPass(Dim, u16),
+}
+
+// How a walk that met a dart not on the level goes on.
+enum Rest {
+    Ended(Neighbour),
+    Stopped(Stop),
+}
+
+// The walk of a dart goes on from the dart met by its first read. All marks are allowed, so 8 is not tested again; n and h stand in the contract alone.
+// The dart is kept as an index, so that no read widens it anew.
+fn onward(
+    n: Dim,
+    darts: u16,
+    h: Level,
+    rows: &[u16],
+    lambda: &[u8],
+    delta: &[u8],
+    level: Level,
+    involution: Dim,
+    dart: u16,
+    met: u16,
+) -> Rest
+    requires { ⌜ Allowed (n .0) darts (h .0) (now rows) (now lambda) (now delta) (level .0) × Meets darts (now rows) (now lambda) (level .0) (n .0) (involution .0) dart met ⌝ }
+    ensures { λ r. ⌜ Tells darts (level .0) (walkOf (entry darts (now (rows .entry))) (n .0) darts (h .0) (each (now (lambda .entry))) (each (now (delta .entry))) (level .0) (involution .0) dart) r ⌝ }
+{
+    let most = 1 + 2 * darts as u32;
+    let mut t = involution;
+    let mut from = met as usize;
+    let mut count: u32 = 1;
+    loop {
+        let mark = Mark(delta[from]);
+        if !answers::can_pass(mark, t) {
+            return Rest::Stopped(Stop::NoPass(t, from as u16));
+        }
+        if count == most {
+            return Rest::Stopped(Stop::Long(involution, dart));
+        }
+        t = answers::across(mark, t);
+        let e = answers::at(darts, rows, t, from as u16);
+        if darts <= e {
+            return Rest::Stopped(Stop::Strays(t, from as u16));
+        }
+        count += 1;
+        let to = e as usize;
+        if level.0 <= lambda[to] {
+            return Rest::Ended(Neighbour { dart: e, count });
+        }
+        from = to;
+    }
+}
+
+// 65,535 throughout.
+pub fn clear(table: &mut [u16])
+    ensures { λ _. ⌜ now (table .exit) ≡ listed (λ _. absent) (length (now (table .entry))) ⌝ }
+{
+    for k in 0..table.len() {
+        table[k] = 65535;
+    }
+}
+
+// What became of the walks of a level, and their count.
+pub struct Walks {
+    pub stop: Stop,
+    pub total: u32,
+}
+
+// The walks of a level into the table, over rows, then darts, left at the first refusal. Where the first read meets the neighbour there is no call.
+pub fn fill(
+    n: Dim,
+    darts: u16,
+    h: Level,
+    rows: &[u16],
+    lambda: &[u8],
+    delta: &[u8],
+    level: Level,
+    table: &mut [u16],
+) -> Walks
+    requires { ⌜ Allowed (n .0) darts (h .0) (now rows) (now lambda) (now delta) (level .0) × (length (now table) ≡ suc (n .0) * darts) ⌝ }
+    ensures { λ r. ⌜ Leaves (n .0) darts (h .0) (now (rows .entry)) (now (lambda .entry)) (now (delta .entry)) (level .0) r (now (table .exit)) ⌝ }
+{
+    let mut stop = Stop::Nowhere;
+    let mut total: u32 = 0;
+    'rows: for i in 0..n.0 + 1 {
+        for d in 0..darts {
+            let place = i as usize * darts as usize + d as usize;
+            if lambda[d as usize] < level.0 {
+                table[place] = 65535;
+            } else {
+                let e = rows[place];
+                if darts <= e {
+                    stop = Stop::Strays(Dim(i), d);
+                    break 'rows;
+                }
+                if level.0 <= lambda[e as usize] {
+                    table[place] = e;
+                    total += 1;
+                } else {
+                    match onward(n, darts, h, rows, lambda, delta, level, Dim(i), d, e) {
+                        Rest::Ended(end) => {
+                            table[place] = end.dart;
+                            total += end.count;
+                        },
+                        Rest::Stopped(why) => {
+                            stop = why;
+                            break 'rows;
+                        },
+                    }
+                }
+            }
+        }
+    }
+    Walks { stop, total }
+}
+
+// The answer of the walks of a level.
+pub fn answer(level: Level, walks: Walks) -> Total
+    ensures { λ r. ⌜ checkOf r ≡ stopOf (level .0) (walks .stop) ⌝ }
+    ensures { λ r. ⌜ totalOf r ≡ ifAccepted (stopOf (level .0) (walks .stop)) (walks .total) 0 ⌝ }
+{
+    let stop = walks.stop;
+    match stop {
+        Stop::Nowhere => Total::Counted(walks.total),
+        Stop::Long(i, d) => Total::Refused(Refusal::TooLong(level, i, d)),
+        Stop::Strays(i, d) => Total::Refused(Refusal::Strays(level, i, d)),
+        Stop::NoPass(i, d) => Total::Refused(Refusal::NoPass(level, i, d)),
+    }
+}
