@@ -61,10 +61,10 @@ pub fn across(mark: Mark, t: Dim) -> Dim
 pub fn has_beyond(n: Dim, mark: Mark) -> bool
     ensures { λ r. ⌜ r ≡ hasBeyond (n .0) (mark .0) ⌝ }
 {
-    if n.0 <= mark.0 {
+    if n.0 < 2 {
         return false;
     }
-    mark.0 + 1 < n.0
+    mark.0 < n.0 - 1
 }
 
 // That row.

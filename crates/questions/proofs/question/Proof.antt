@@ -12,14 +12,25 @@ use borrow.Author.Needs.{needs}
 use Rattle.questions.proofs.question.Statement.{statement}
 use Rattle.questions.proofs.question.Tie as tie
 
+-- the entry, from the answer of `asked`
+abbrev start : tie.After-asked → tie.Start
+start c = c .before .before .before .before .before
+
+-- past 1 to 4 and 11, from past 12; past 12, from the test of the starting dart's marks
+abbrev past-level : tie.Else2 → tie.After-enum-told
+past-level c = c .before .before .before .before .before .before
+
+abbrev past-dart : tie.After-marks-refused → tie.Else2
+past-dart c = c .before .before .before
+
 -- what `asked` answers, with the lengths written out
-asked-is : (c : tie.After-asked) → let a = c .before .before .before .before .before .args in verdictOf (c .asked .result) ≡ askedOf (a .n .0) (a .darts) (a .h .0) (pyramidFits (a .n .0) (a .darts) (now (a .rows)) (now (a .lambda)) (now (a .delta))) (a .asked .level .0) (a .asked .involution .0) (a .asked .dart)
+asked-is : (c : tie.After-asked) → let a = start c .args in verdictOf (c .asked .result) ≡ askedOf (a .n .0) (a .darts) (a .h .0) (pyramidFits (a .n .0) (a .darts) (now (a .rows)) (now (a .lambda)) (now (a .delta))) (a .asked .level .0) (a .asked .involution .0) (a .asked .dart)
 asked-is c =
-    let a = c .before .before .before .before .before .args in
+    let a = start c .args in
     c .asked .ensures ∙ ap (λ (fit : Bool). askedOf (a .n .0) (a .darts) (a .h .0) fit (a .asked .level .0) (a .asked .involution .0) (a .asked .dart)) (c .before .pyramid-fits .ensures)
 
 -- sizes, lengths and level are accepted
-first : (c : tie.After-enum-told) → let a = c .before .before .before .before .before .before .before .args in accepted ≡ askedOf (a .n .0) (a .darts) (a .h .0) (pyramidFits (a .n .0) (a .darts) (now (a .rows)) (now (a .lambda)) (now (a .delta))) (a .asked .level .0) (a .asked .involution .0) (a .asked .dart)
+first : (c : tie.After-enum-told) → let a = start (c .before .before) .args in accepted ≡ askedOf (a .n .0) (a .darts) (a .h .0) (pyramidFits (a .n .0) (a .darts) (now (a .rows)) (now (a .lambda)) (now (a .delta))) (a .asked .level .0) (a .asked .involution .0) (a .asked .dart)
 first c = told (asked-is (c .before .before)) (c .enum-told .given .1)
 
 pyramid-fits-requires : tie.Need-pyramid-fits-requires
@@ -32,39 +43,37 @@ enum-known-r : tie.Need-enum-known-r
 enum-known-r c = search needs
 
 returns : tie.Need-returns
-returns c =
-    let a = c .before .before .before .before .before .before .before .before .args in
-    question-refused (a .n .0) (a .darts) (a .h .0) (now (a .rows)) (now (a .lambda)) (now (a .delta)) (a .asked .level .0) (a .asked .involution .0) (a .asked .dart) (c .before .r .given .0 .0) (told (asked-is (c .before .before .before)) (c .before .r .given .1))
+returns c = let q : tie.After-asked = c .before .before .before in let a = start q .args in question-refused (a .n .0) (a .darts) (a .h .0) (now (a .rows)) (now (a .lambda)) (now (a .delta)) (a .asked .level .0) (a .asked .involution .0) (a .asked .dart) (c .before .r .given .0 .0) (told (asked-is q) (c .before .r .given .1))
 
 enum-told : tie.Need-enum-told
 enum-told c = search needs
 
 returns-2 : tie.Need-returns-2
-returns-2 c = let a = c .before .before .before .before .before .before .before .before .before .before .before .before .args in no-involution (a .n .0) (a .darts) (a .h .0) (now (a .rows)) (now (a .lambda)) (now (a .delta)) (a .asked .level .0) (a .asked .involution .0) (a .asked .dart) (first (c .before .before .before .before .before)) (c .if1 .taken)
+returns-2 c = let t : tie.After-enum-told = c .before .before .before .before .before in let a = start (t .before .before) .args in no-involution (a .n .0) (a .darts) (a .h .0) (now (a .rows)) (now (a .lambda)) (now (a .delta)) (a .asked .level .0) (a .asked .involution .0) (a .asked .dart) (first t) (c .if1 .taken)
 
 returns-3 : tie.Need-returns-3
-returns-3 c = let a = c .before .before .before .before .before .before .before .before .before .before .before .before .before .args in no-dart (a .n .0) (a .darts) (a .h .0) (now (a .rows)) (now (a .lambda)) (now (a .delta)) (a .asked .level .0) (a .asked .involution .0) (a .asked .dart) (first (c .before .before .before .before .before .before)) (c .before .if1 .left) (c .if2 .taken)
+returns-3 c = let t : tie.After-enum-told = c .before .before .before .before .before .before in let a = start (t .before .before) .args in no-dart (a .n .0) (a .darts) (a .h .0) (now (a .rows)) (now (a .lambda)) (now (a .delta)) (a .asked .level .0) (a .asked .involution .0) (a .asked .dart) (first t) (c .before .if1 .left) (c .if2 .taken)
 
 cast-at : tie.Need-cast-at
 cast-at c = search needs
 
 shared-slice-read-t23 : tie.Need-shared-slice-read-t23
-shared-slice-read-t23 c = let a = c .before .before .before .before .before .before .before .before .before .before .before .before .before .before .args in omega (arith, c .before .if2 .left, asked-lent (a .n .0) (a .darts) (a .h .0) (now (a .rows)) (now (a .lambda)) (now (a .delta)) (a .asked .level .0) (a .asked .involution .0) (a .asked .dart) (sym (first (c .before .before .before .before .before .before .before))) .lambda-length)
+shared-slice-read-t23 c = let e : tie.Else2 = c .before in let t = past-level e in let a = start (t .before .before) .args in omega (arith, e .if2 .left, asked-lent (a .n .0) (a .darts) (a .h .0) (now (a .rows)) (now (a .lambda)) (now (a .delta)) (a .asked .level .0) (a .asked .involution .0) (a .asked .dart) (sym (first t)) .lambda-length)
 
 shared-slice-read-t23-2 : tie.Need-shared-slice-read-t23-2
-shared-slice-read-t23-2 c = let a = c .before .before .before .before .before .before .before .before .before .before .before .before .before .before .before .args in omega (arith, c .before .before .if2 .left, asked-lent (a .n .0) (a .darts) (a .h .0) (now (a .rows)) (now (a .lambda)) (now (a .delta)) (a .asked .level .0) (a .asked .involution .0) (a .asked .dart) (sym (first (c .before .before .before .before .before .before .before .before))) .delta-length)
+shared-slice-read-t23-2 c = let e : tie.Else2 = c .before .before in let t = past-level e in let a = start (t .before .before) .args in omega (arith, e .if2 .left, asked-lent (a .n .0) (a .darts) (a .h .0) (now (a .rows)) (now (a .lambda)) (now (a .delta)) (a .asked .level .0) (a .asked .involution .0) (a .asked .dart) (sym (first t)) .delta-length)
 
 marks-refused-requires : tie.Need-marks-refused-requires
 marks-refused-requires c κs = search needs
 
 returns-4 : tie.Need-returns-4
-returns-4 c = let a = c .before .before .before .before .before .before .before .before .before .before .before .before .before .before .before .before .before .args in start-marks (a .n .0) (a .darts) (a .h .0) (now (a .rows)) (now (a .lambda)) (now (a .delta)) (a .asked .level .0) (a .asked .involution .0) (a .asked .dart) (first (c .before .before .before .before .before .before .before .before .before .before)) (c .before .before .before .before .before .if1 .left) (c .before .before .before .before .if2 .left) (c .before .marks-refused .ensures) (c .if3 .taken)
+returns-4 c = let m : tie.After-marks-refused = c .before in let e = past-dart m in let t = past-level e in let a = start (t .before .before) .args in start-marks (a .n .0) (a .darts) (a .h .0) (now (a .rows)) (now (a .lambda)) (now (a .delta)) (a .asked .level .0) (a .asked .involution .0) (a .asked .dart) (first t) (e .before .if1 .left) (e .if2 .left) (m .marks-refused .ensures) (c .if3 .taken)
 
 returns-5 : tie.Need-returns-5
-returns-5 c = let a = c .before .before .before .before .before .before .before .before .before .before .before .before .before .before .before .before .before .before .before .before .args in start-gone (a .n .0) (a .darts) (a .h .0) (now (a .rows)) (now (a .lambda)) (now (a .delta)) (a .asked .level .0) (a .asked .involution .0) (a .asked .dart) (first (c .before .before .before .before .before .before .before .before .before .before .before .before .before)) (c .before .before .before .before .before .before .before .before .if1 .left) (c .before .before .before .before .before .before .before .if2 .left) (c .before .before .before .before .marks-refused .ensures) (c .before .before .before .if3 .left) (c .if4 .taken)
+returns-5 c = let o : tie.Else3 = c .before .before .before in let m : tie.After-marks-refused = o .before in let e = past-dart m in let t = past-level e in let a = start (t .before .before) .args in start-gone (a .n .0) (a .darts) (a .h .0) (now (a .rows)) (now (a .lambda)) (now (a .delta)) (a .asked .level .0) (a .asked .involution .0) (a .asked .dart) (first t) (e .before .if1 .left) (e .if2 .left) (m .marks-refused .ensures) (o .if3 .left) (c .if4 .taken)
 
 returns-6 : tie.Need-returns-6
-returns-6 c = let a = c .before .before .before .before .before .before .before .before .before .before .before .before .before .before .before .before .before .before .before .before .args in start-on (a .n .0) (a .darts) (a .h .0) (now (a .rows)) (now (a .lambda)) (now (a .delta)) (a .asked .level .0) (a .asked .involution .0) (a .asked .dart) (first (c .before .before .before .before .before .before .before .before .before .before .before .before .before)) (c .before .before .before .before .before .before .before .before .if1 .left) (c .before .before .before .before .before .before .before .if2 .left) (c .before .before .before .before .marks-refused .ensures) (c .before .before .before .if3 .left) (c .if4 .left)
+returns-6 c = let o : tie.Else3 = c .before .before .before in let m : tie.After-marks-refused = o .before in let e = past-dart m in let t = past-level e in let a = start (t .before .before) .args in start-on (a .n .0) (a .darts) (a .h .0) (now (a .rows)) (now (a .lambda)) (now (a .delta)) (a .asked .level .0) (a .asked .involution .0) (a .asked .dart) (first t) (e .before .if1 .left) (e .if2 .left) (m .marks-refused .ensures) (o .if3 .left) (c .if4 .left)
 
 pub question-spec : {M : Type 1} → statement M
 question-spec =
