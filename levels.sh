@@ -7,8 +7,8 @@ usage() {
 ./levels.sh [RECORD]
 
 Runs the proved program levels on a record, or on samples/star.record if none is named. It prints n, N and h, and for
-each level its number, its survivors and the base entries that reading it takes; or one line: refused, then number,
-level, involution and dart (docs/SCOPE.md, 'Numbers of refusal').
+each level its number, its survivors, the base entries that reading it takes and since which level all its links stand;
+or one line: refused, then number, level, involution and dart (docs/SCOPE.md, 'Numbers of refusal').
 
 The first run proves the program and all that it uses, which takes minutes; a later one looks whether anything
 changed. Status: 0 printed, 1 the record is refused, 2 the record can't be read or the call is wrong, 3 the program

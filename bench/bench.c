@@ -11,7 +11,8 @@ struct implementation {
     __typeof__(&plain_check) check;
     __typeof__(&plain_add) add;
     __typeof__(&plain_unfold) unfold;
-    __typeof__(&plain_read) read, read_by_levels;
+    __typeof__(&plain_read) read;
+    __typeof__(&plain_read_by_levels) read_by_levels;
     __typeof__(&plain_mark_cells) mark;
     __typeof__(&plain_take) take;
     __typeof__(&plain_survivors) survivors;
@@ -57,27 +58,25 @@ static void run_add(const struct implementation *by)
 static void run_unfold(const struct implementation *by)
 {
     for (unsigned l = 0; l <= map.h; l++) {
-        zg_count r = by->unfold(PYRAMID, (uint8_t)l, table, len);
+        zg_unfolding r = by->unfold(PYRAMID, (uint8_t)l, table, len);
         refusals += r.refusal.number;
         reads += r.count;
     }
 }
 
 /* Every seventh dart of every level, by every involution. */
-static void run_readings(__typeof__(&plain_read) reading)
-{
-    for (unsigned l = 0; l <= map.h; l++)
-        for (unsigned i = 0; i <= map.n; i++)
-            for (unsigned d = (l + i) % 7; d < map.darts; d += 7)
-                if (map.lambda[d] >= l) {
-                    zg_reading r = reading(PYRAMID, (uint8_t)l, (uint8_t)i, (uint16_t)d);
-                    refusals += r.refusal.number;
-                    reads += r.count;
+#define ALL_READINGS(reading)                                                                                          \
+    for (unsigned l = 0; l <= map.h; l++)                                                                              \
+        for (unsigned i = 0; i <= map.n; i++)                                                                          \
+            for (unsigned d = (l + i) % 7; d < map.darts; d += 7)                                                      \
+                if (map.lambda[d] >= l) {                                                                              \
+                    __typeof__(reading(PYRAMID, 0, 0, 0)) r = reading(PYRAMID, (uint8_t)l, (uint8_t)i, (uint16_t)d);   \
+                    refusals += r.refusal.number;                                                                      \
+                    reads += r.count;                                                                                  \
                 }
-}
 
-static void run_read(const struct implementation *by) { run_readings(by->read); }
-static void run_by_levels(const struct implementation *by) { run_readings(by->read_by_levels); }
+static void run_read(const struct implementation *by) { ALL_READINGS(by->read) }
+static void run_by_levels(const struct implementation *by) { ALL_READINGS(by->read_by_levels) }
 
 /* Every dimension, on the base and on the top level. */
 static void run_mark(const struct implementation *by)

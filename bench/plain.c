@@ -295,32 +295,34 @@ static unsigned bad_question(unsigned n, unsigned darts, unsigned h, size_t rows
     return lambda[dart] < level ? 12 : 0;
 }
 
-static zg_reading refuse_question(unsigned number, unsigned level, unsigned involution, unsigned dart)
+static zg_refusal refuse_question(unsigned number, unsigned level, unsigned involution, unsigned dart)
 {
     if (number <= 4)
-        return RESULT(zg_reading, {number});
-    return RESULT(zg_reading, {number, level, involution, dart});
+        return RESULT(zg_refusal, number);
+    return RESULT(zg_refusal, number, level, involution, dart);
 }
 
-zg_reading plain_read(uint8_t n, uint16_t darts, uint8_t h, const uint16_t *rows, size_t rows_len,
-                      const uint8_t *lambda, size_t lambda_len, const uint8_t *delta, size_t delta_len, uint8_t level,
-                      uint8_t involution, uint16_t dart)
+zg_link plain_read(uint8_t n, uint16_t darts, uint8_t h, const uint16_t *rows, size_t rows_len,
+                   const uint8_t *lambda, size_t lambda_len, const uint8_t *delta, size_t delta_len, uint8_t level,
+                   uint8_t involution, uint16_t dart)
 {
     unsigned bad = bad_question(n, darts, h, rows_len, lambda, lambda_len, delta, delta_len, level, involution, dart);
     if (bad)
-        return refuse_question(bad, level, involution, dart);
-    unsigned t = involution, at = dart, most = 1 + 2u * darts;
+        return RESULT(zg_link, refuse_question(bad, level, involution, dart));
+    unsigned t = involution, at = dart, most = 1 + 2u * darts, since = 0;
     const uint16_t *row = rows + t * darts;
     for (unsigned reads = 1;; reads++) {
         if (reads > most)
-            return RESULT(zg_reading, {15, level, involution, dart});
+            return RESULT(zg_link, {15, level, involution, dart});
         unsigned met = row[at];
         if (met >= darts)
-            return RESULT(zg_reading, {5, level, t, at});
+            return RESULT(zg_link, {5, level, t, at});
         if (!marks_fit(n, h, lambda[met], delta[met]))
-            return RESULT(zg_reading, {8, level, t, met});
+            return RESULT(zg_link, {8, level, t, met});
         if (lambda[met] >= level)
-            return RESULT(zg_reading, .count = reads, .neighbour = (uint16_t)met);
+            return RESULT(zg_link, .count = reads, .neighbour = (uint16_t)met, .since = (uint8_t)since);
+        if (since <= lambda[met])
+            since = lambda[met] + 1u;
         if (delta[met] == t) {
             t++;
             row += darts;
@@ -328,7 +330,7 @@ zg_reading plain_read(uint8_t n, uint16_t darts, uint8_t h, const uint16_t *rows
             t--;
             row -= darts;
         } else
-            return RESULT(zg_reading, {14, level, t, met});
+            return RESULT(zg_link, {14, level, t, met});
         at = met;
     }
 }
@@ -414,7 +416,7 @@ static zg_reading read_by(level_reader *reader, uint8_t n, uint16_t darts, uint8
 {
     unsigned bad = bad_question(n, darts, h, rows_len, lambda, lambda_len, delta, delta_len, level, involution, dart);
     if (bad)
-        return refuse_question(bad, level, involution, dart);
+        return RESULT(zg_reading, refuse_question(bad, level, involution, dart));
     struct question q = {rows, lambda, delta, n, darts, h, level, involution, dart, 0, 0, {{0}}};
     unsigned met = reader(&q, level, involution, dart);
     if (met == ZG_ABSENT)
@@ -441,11 +443,11 @@ zg_reading plain_read_by_levels_skipping(uint8_t n, uint16_t darts, uint8_t h, c
 /* ---------------------------------------------------------------- whole levels */
 
 /* Apart from the tests before it, so that its loops have the registers to themselves. */
-__attribute__((noinline)) static zg_count unfold_rows(unsigned n, unsigned darts, const uint16_t *rows,
-                                                      const uint8_t *lambda, const uint8_t *delta, uint8_t level,
-                                                      uint16_t *table)
+__attribute__((noinline)) static zg_unfolding unfold_rows(unsigned n, unsigned darts, const uint16_t *rows,
+                                                          const uint8_t *lambda, const uint8_t *delta, uint8_t level,
+                                                          uint16_t *table)
 {
-    unsigned total = 0;
+    unsigned total = 0, since = 0;
     for (unsigned i = 0; i <= n; i++, rows += darts, table += darts)
         for (unsigned d = 0; d < darts; d++) {
             unsigned met = ZG_ABSENT;
@@ -453,12 +455,14 @@ __attribute__((noinline)) static zg_count unfold_rows(unsigned n, unsigned darts
                 met = rows[d];
                 total++;
                 if (met >= darts)
-                    return RESULT(zg_count, {5, level, i, d});
+                    return RESULT(zg_unfolding, {5, level, i, d});
                 if (lambda[met] < level) {
                     const uint16_t *row = rows;
                     unsigned t = i, left = 2 * darts;
                     do {
                         unsigned from = met;
+                        if (since <= lambda[from])
+                            since = lambda[from] + 1u;
                         if (delta[from] == t) {
                             t++;
                             row += darts;
@@ -466,37 +470,37 @@ __attribute__((noinline)) static zg_count unfold_rows(unsigned n, unsigned darts
                             t--;
                             row -= darts;
                         } else
-                            return RESULT(zg_count, {14, level, t, met});
+                            return RESULT(zg_unfolding, {14, level, t, met});
                         if (left-- == 0)
-                            return RESULT(zg_count, {15, level, i, d});
+                            return RESULT(zg_unfolding, {15, level, i, d});
                         met = row[from];
                         total++;
                         if (met >= darts)
-                            return RESULT(zg_count, {5, level, t, from});
+                            return RESULT(zg_unfolding, {5, level, t, from});
                     } while (lambda[met] < level);
                 }
             }
             table[d] = (uint16_t)met;
         }
-    return RESULT(zg_count, .count = total);
+    return RESULT(zg_unfolding, .count = total, .since = (uint8_t)since);
 }
 
-zg_count plain_unfold(uint8_t n, uint16_t darts, uint8_t h, const uint16_t *rows, size_t rows_len,
-                      const uint8_t *lambda, size_t lambda_len, const uint8_t *delta, size_t delta_len, uint8_t level,
-                      uint16_t *table, size_t table_len)
+zg_unfolding plain_unfold(uint8_t n, uint16_t darts, uint8_t h, const uint16_t *rows, size_t rows_len,
+                          const uint8_t *lambda, size_t lambda_len, const uint8_t *delta, size_t delta_len,
+                          uint8_t level, uint16_t *table, size_t table_len)
 {
     unsigned bad = bad_size(n, darts, h);
     if (bad)
-        return RESULT(zg_count, {bad});
+        return RESULT(zg_unfolding, {bad});
     size_t len = (size_t)(n + 1) * darts;
     if (rows_len != len || lambda_len != darts || delta_len != darts || table_len != len)
-        return RESULT(zg_count, {4});
+        return RESULT(zg_unfolding, {4});
     if (level > h)
-        return RESULT(zg_count, {11, level});
+        return RESULT(zg_unfolding, {11, level});
     unsigned unfit = first_unfit(n, darts, h, lambda, delta);
     if (unfit < darts)
-        return RESULT(zg_count, {8, level, 0, unfit});
-    zg_count r = unfold_rows(n, darts, rows, lambda, delta, level, table);
+        return RESULT(zg_unfolding, {8, level, 0, unfit});
+    zg_unfolding r = unfold_rows(n, darts, rows, lambda, delta, level, table);
     if (r.refusal.number)
         memset(table, 0xFF, len * sizeof *table);
     return r;

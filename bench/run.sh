@@ -66,11 +66,11 @@ line() {
     }'
 }
 
-# limit JOB MAP: the target, or what the document's form costs where that is more (docs/MEASURED.md): unfolding should take
-# 1.05 times as many instructions as C, a reading by levels 1.50 times on path32 too.
+# limit JOB MAP: the target, or what the document's form costs where that is more: a reading by levels should take 1.50 times
+# as many instructions as C on path32 too (docs/MEASURED.md).
 limit() {
     case $1/$2 in
-    unfold/*) echo 1.15 ;;
+    unfold/*) echo 1.05 ;;
     bylevels/path32) echo 1.70 ;;
     bylevels/*) echo 1.50 ;;
     read/*) echo 1.00 ;;

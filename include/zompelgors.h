@@ -15,7 +15,7 @@ extern "C" {
  * belong together. Names, the order of arguments and the first field of every answer stay. MAJOR rises when a function
  * answers or is lent something else than before, MINOR when something is added, PATCH when neither is seen from here.
  */
-#define ZG_VERSION_MAJOR 1
+#define ZG_VERSION_MAJOR 2
 #define ZG_VERSION_MINOR 0
 #define ZG_VERSION_PATCH 0
 #define ZG_VERSION (ZG_VERSION_MAJOR * 65536 + ZG_VERSION_MINOR * 256 + ZG_VERSION_PATCH)
@@ -89,13 +89,26 @@ typedef struct {
 
 typedef struct {
     zg_refusal refusal;
-    uint32_t count;     /* base entries read */
+    uint32_t count; /* base entries read */
     uint16_t neighbour;
 } zg_reading;
 
 typedef struct {
     zg_refusal refusal;
-    uint32_t count; /* base entries read in all; or survivors */
+    uint32_t count; /* base entries read */
+    uint16_t neighbour;
+    uint8_t since; /* the lowest level on which the dart already has this neighbour */
+} zg_link;
+
+typedef struct {
+    zg_refusal refusal;
+    uint32_t count; /* base entries read in all */
+    uint8_t since;  /* the largest of its readings */
+} zg_unfolding;
+
+typedef struct {
+    zg_refusal refusal;
+    uint32_t count; /* survivors */
 } zg_count;
 
 typedef struct {
@@ -189,20 +202,21 @@ zg_refusal zg_marks_of(uint8_t n, uint16_t darts, uint8_t h, const uint8_t *lamb
 /*
  * Reads one neighbour on a level by the direct walk, on any tables, checked before or not. Lent to read: rows,
  * (n+1)N; lambda, N; delta, N.
- * Accepted: neighbour, and count, the base entries read; at most 1 + 2N.
+ * Accepted: neighbour, and count, the base entries read; at most 1 + 2N. since is one more than the largest Lambda
+ * passed, or 0 if no dart was passed: in an accepted pyramid the lowest level from which on the link has stood.
  * Refused 1, 2, 3, 4, 11, 13, 12 (N or more), then for the starting dart 8 and 12, then at each read 15, 5, 8, 14.
  * level is the one asked. 11, 13, 12 and the start's 8 have the involution and the dart asked, so has 15; 5 has the
  * row read and the dart whose entry it is, 8 and 14 the row read last and the dart met.
  */
-zg_reading zg_read(uint8_t n, uint16_t darts, uint8_t h, const uint16_t *rows, size_t rows_len,
-                   const uint8_t *lambda, size_t lambda_len, const uint8_t *delta, size_t delta_len,
-                   uint8_t level, uint8_t involution, uint16_t dart);
+zg_link zg_read(uint8_t n, uint16_t darts, uint8_t h, const uint16_t *rows, size_t rows_len,
+                const uint8_t *lambda, size_t lambda_len, const uint8_t *delta, size_t delta_len,
+                uint8_t level, uint8_t involution, uint16_t dart);
 
 /*
  * The same question answered level by level, each step a reading one level lower, down to the base. Lent, returned
  * and refused as zg_read, with one difference: 14 is also given where a dart on the way isn't in the kernel below the
- * level being read with the dimension of the row walked by. Where it isn't refused 14, all fields are those of zg_read.
- * It calls itself level + 1 deep.
+ * level being read with the dimension of the row walked by. Where it isn't refused 14, its fields are those of zg_read.
+ * It has no since. It calls itself level + 1 deep.
  */
 zg_reading zg_read_by_levels(uint8_t n, uint16_t darts, uint8_t h, const uint16_t *rows, size_t rows_len,
                              const uint8_t *lambda, size_t lambda_len, const uint8_t *delta, size_t delta_len,
@@ -211,14 +225,15 @@ zg_reading zg_read_by_levels(uint8_t n, uint16_t darts, uint8_t h, const uint16_
 /*
  * Unfolds a whole level by direct walks. Lent to read: rows, (n+1)N; lambda, N; delta, N. Lent to write: table,
  * (n+1)N.
- * Accepted: table holds the explicit level; count is the total of its readings' counts.
+ * Accepted: table holds the explicit level; count is the total of its readings' counts, since the largest of their
+ * sinces, 0 for a level with no darts.
  * Refused 1, 2, 3, 4, 11 (the level asked), 8 over all darts (the level asked, 0, the dart), then the walks, by
  * involution, then dart, each refused 15, 5, 14 as zg_read.
  * After 15, 5 or 14 table is ZG_ABSENT throughout; after any other number it is untouched.
  */
-zg_count zg_unfold(uint8_t n, uint16_t darts, uint8_t h, const uint16_t *rows, size_t rows_len,
-                   const uint8_t *lambda, size_t lambda_len, const uint8_t *delta, size_t delta_len,
-                   uint8_t level, uint16_t *table, size_t table_len);
+zg_unfolding zg_unfold(uint8_t n, uint16_t darts, uint8_t h, const uint16_t *rows, size_t rows_len,
+                       const uint8_t *lambda, size_t lambda_len, const uint8_t *delta, size_t delta_len,
+                       uint8_t level, uint16_t *table, size_t table_len);
 
 /*
  * Says where a row of a level lies; no entry is read or copied. Lent: base, (n+1)N, the base rows; unfolded, (n+1)N,

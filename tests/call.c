@@ -180,13 +180,23 @@ static void call_marks(struct call *c)
     take_refusal(c, r);
 }
 
-static void call_reading(struct call *c)
+static void call_read(struct call *c)
 {
     const uint16_t *rows = rows_in(c);
     const uint8_t *lambda = lambda_in(c), *delta = delta_in(c);
-    zg_reading r = (c->job == READ ? zg_read : zg_read_by_levels)(
-        (uint8_t)c->n, (uint16_t)c->darts, (uint8_t)c->h, rows, c->rows_len, lambda, c->lambda_len, delta,
-        c->delta_len, (uint8_t)c->level, (uint8_t)c->involution, (uint16_t)c->dart);
+    zg_link r = zg_read((uint8_t)c->n, (uint16_t)c->darts, (uint8_t)c->h, rows, c->rows_len, lambda, c->lambda_len,
+                        delta, c->delta_len, (uint8_t)c->level, (uint8_t)c->involution, (uint16_t)c->dart);
+    take_refusal(c, r.refusal);
+    take_found(c, 3, r.neighbour, r.count, r.since);
+}
+
+static void call_by_levels(struct call *c)
+{
+    const uint16_t *rows = rows_in(c);
+    const uint8_t *lambda = lambda_in(c), *delta = delta_in(c);
+    zg_reading r = zg_read_by_levels((uint8_t)c->n, (uint16_t)c->darts, (uint8_t)c->h, rows, c->rows_len, lambda,
+                                     c->lambda_len, delta, c->delta_len, (uint8_t)c->level, (uint8_t)c->involution,
+                                     (uint16_t)c->dart);
     take_refusal(c, r.refusal);
     take_found(c, 2, r.neighbour, r.count, 0);
 }
@@ -196,10 +206,10 @@ static void call_unfold(struct call *c)
     const uint16_t *rows = rows_in(c);
     const uint8_t *lambda = lambda_in(c), *delta = delta_in(c);
     uint16_t *table = table_out(c);
-    zg_count r = zg_unfold((uint8_t)c->n, (uint16_t)c->darts, (uint8_t)c->h, rows, c->rows_len, lambda, c->lambda_len,
-                           delta, c->delta_len, (uint8_t)c->level, table, c->table_len);
+    zg_unfolding r = zg_unfold((uint8_t)c->n, (uint16_t)c->darts, (uint8_t)c->h, rows, c->rows_len, lambda,
+                               c->lambda_len, delta, c->delta_len, (uint8_t)c->level, table, c->table_len);
     take_refusal(c, r.refusal);
-    take_found(c, 1, r.count, 0, 0);
+    take_found(c, 2, r.count, r.since, 0);
 }
 
 static void call_row(struct call *c)
@@ -258,14 +268,14 @@ static bool say_level(struct call *levels, struct call *step, unsigned level)
     call_job(step);
     if (say_refusal(levels, step))
         return false;
-    unsigned total = step->found[0];
+    unsigned total = step->found[0], since = step->found[1];
     step->words = words;
     step->words_len = ZG_WORDS;
     step->job = SURVIVORS;
     call_job(step);
     if (say_refusal(levels, step))
         return false;
-    sprintf(levels->text + strlen(levels->text), " / %u %u %u", level, step->found[0], total);
+    sprintf(levels->text + strlen(levels->text), " / %u %u %u %u", level, step->found[0], total, since);
     return true;
 }
 
@@ -298,7 +308,7 @@ static void call_levels(struct call *c)
 void call_job(struct call *c)
 {
     static void (*const calls[JOBS])(struct call *) = {
-        call_check_base, call_check, call_add, call_marks, call_reading, call_reading, call_unfold, call_row,
+        call_check_base, call_check, call_add, call_marks, call_read, call_by_levels, call_unfold, call_row,
         call_survivors, call_mark, call_take, call_levels,
     };
     c->founds = 0;

@@ -159,14 +159,21 @@ inline void answer_or_throw(Case& c, Answer& a)
     case CHECK: by::check(c.n, c.darts, c.h, c.rows, c.lambda, c.delta, c.table); break;
     case ADD: found(a, by::add(c.n, c.darts, c.h, c.rows, c.lambda, c.delta, c.marks, c.table)); break;
     case MARKS: by::marks(c.n, c.darts, c.h, c.lambda, c.delta, c.level, c.marks); break;
-    case READ:
+    case READ: {
+        const auto r = by::read(c.n, c.darts, c.h, c.rows, c.lambda, c.delta, c.level, c.involution, c.dart);
+        found(a, r.neighbour, r.count, r.since);
+        break;
+    }
     case BY_LEVELS: {
-        const auto reading = c.what == READ ? by::read : by::read_by_levels;
-        const auto r = reading(c.n, c.darts, c.h, c.rows, c.lambda, c.delta, c.level, c.involution, c.dart);
+        const auto r = by::read_by_levels(c.n, c.darts, c.h, c.rows, c.lambda, c.delta, c.level, c.involution, c.dart);
         found(a, r.neighbour, r.count);
         break;
     }
-    case UNFOLD: found(a, by::unfold(c.n, c.darts, c.h, c.rows, c.lambda, c.delta, c.level, c.table)); break;
+    case UNFOLD: {
+        const auto r = by::unfold(c.n, c.darts, c.h, c.rows, c.lambda, c.delta, c.level, c.table);
+        found(a, r.total, r.since);
+        break;
+    }
     case ROW: {
         const auto r = by::row(c.n, c.darts, c.h, c.rows, c.table, c.level, c.involution);
         found(a, r.unfolded, r.start, r.length);
@@ -186,7 +193,7 @@ inline void answer_or_throw(Case& c, Answer& a)
 
 inline Answer answer_independently(Case& c)
 {
-    static const unsigned founds[JOBS] = {0, 0, 1, 0, 2, 2, 1, 3, 1, 0, 3, 0};
+    static const unsigned founds[JOBS] = {0, 0, 1, 0, 3, 2, 2, 3, 1, 0, 3, 0};
     Answer a;
     a.founds = founds[c.what];
     if (c.what == ADD)

@@ -11,6 +11,13 @@ SAME(place_of_dart, offsetof(zg_refusal, dart), 6);
 SAME(size_of_reading, sizeof(zg_reading), 16);
 SAME(place_of_count, offsetof(zg_reading, count), 8);
 SAME(place_of_neighbour, offsetof(zg_reading, neighbour), 12);
+SAME(size_of_link, sizeof(zg_link), 16);
+SAME(place_of_link_count, offsetof(zg_link, count), 8);
+SAME(place_of_link_neighbour, offsetof(zg_link, neighbour), 12);
+SAME(place_of_since, offsetof(zg_link, since), 14);
+SAME(size_of_unfolding, sizeof(zg_unfolding), 16);
+SAME(place_of_unfolding_count, offsetof(zg_unfolding, count), 8);
+SAME(place_of_latest, offsetof(zg_unfolding, since), 12);
 SAME(size_of_count, sizeof(zg_count), 12);
 SAME(place_of_total, offsetof(zg_count, count), 8);
 SAME(size_of_height, sizeof(zg_height), 10);
@@ -26,6 +33,8 @@ SAME(place_of_darts, offsetof(zg_record, darts), 10);
 
 /* Every answer begins with its refusal. */
 SAME(first_of_reading, offsetof(zg_reading, refusal), 0);
+SAME(first_of_link, offsetof(zg_link, refusal), 0);
+SAME(first_of_unfolding, offsetof(zg_unfolding, refusal), 0);
 SAME(first_of_count, offsetof(zg_count, refusal), 0);
 SAME(first_of_height, offsetof(zg_height, refusal), 0);
 SAME(first_of_part, offsetof(zg_part, refusal), 0);

@@ -2,6 +2,7 @@
 #ifndef INDEPENDENT_HPP
 #define INDEPENDENT_HPP
 
+#include <algorithm>
 #include <cassert>
 #include <cstddef>
 #include <cstdint>
@@ -317,6 +318,7 @@ inline void marks(unsigned n, unsigned darts, unsigned h, const Bytes& lambda, c
 
 struct Reading {
     unsigned neighbour = 0, count = 0;
+    unsigned since = 0; // of a direct reading: one more than the largest Lambda passed, or 0
 };
 
 // One question to a folded pyramid: who is the neighbour of `dart` by `involution` on `level`?
@@ -342,8 +344,9 @@ public:
     Reading direct()
     {
         unsigned t = involution;
-        unsigned met = read(t, dart);
+        unsigned met = read(t, dart), since = 0;
         while (lambda[met] < level) {
+            since = std::max(since, lambda[met] + 1u);
             if (delta[met] == t)
                 t = t + 1;
             else if (delta[met] + 1u == t)
@@ -352,13 +355,13 @@ public:
                 refuse_passing(met);
             met = read(t, met);
         }
-        return {met, count};
+        return {met, count, since};
     }
 
     Reading by_levels()
     {
         const unsigned met = on_level(level, involution, dart);
-        return {met, count};
+        return {met, count, 0};
     }
 
 private:
@@ -421,26 +424,30 @@ inline Reading read_by_levels(unsigned n, unsigned darts, unsigned h, const Entr
 
 // ---------------------------------------------------------------- whole levels
 
-// Returns the total count.
-inline unsigned unfold(unsigned n, unsigned darts, unsigned h, const Entries& rows, const Bytes& lambda,
-                       const Bytes& delta, unsigned level, Entries& table)
+struct Unfolding {
+    unsigned total = 0, since = 0; // of all readings: the sum of their counts, the largest of their sinces
+};
+
+inline Unfolding unfold(unsigned n, unsigned darts, unsigned h, const Entries& rows, const Bytes& lambda,
+                        const Bytes& delta, unsigned level, Entries& table)
 {
     demand_pyramid_lengths(n, darts, h, rows, lambda, delta);
     demand_length(table.size(), rows.size());
     demand(level <= h, 11, level);
     demand_folded(n, darts, h, lambda, delta, level);
     table.assign(table.size(), none);
-    unsigned total = 0;
+    Unfolding all;
     Map unfolded(n, darts);
     for (unsigned i = 0; i <= n; i++)
         for (unsigned d = 0; d < darts; d++)
             if (lambda[d] >= level) {
                 const Reading r = Question(n, darts, h, rows, lambda, delta, level, i, d).direct();
                 unfolded.a[i][d] = r.neighbour;
-                total += r.count;
+                all.total += r.count;
+                all.since = std::max(all.since, r.since);
             }
     unfolded.write(table);
-    return total;
+    return all;
 }
 
 struct Part {
@@ -580,10 +587,11 @@ inline std::string levels(const Bytes& bytes)
         check(r.n, r.darts, r.h, r.rows, r.lambda, r.delta, table);
         std::string text = std::to_string(r.n) + ' ' + std::to_string(r.darts) + ' ' + std::to_string(r.h);
         for (unsigned l = 0; l <= r.h; l++) {
-            const unsigned total = unfold(r.n, r.darts, r.h, r.rows, r.lambda, r.delta, l, table);
+            const Unfolding all = unfold(r.n, r.darts, r.h, r.rows, r.lambda, r.delta, l, table);
             Words words(64);
             const unsigned count = survivors(r.darts, r.h, r.lambda, l, words);
-            text += " / " + std::to_string(l) + ' ' + std::to_string(count) + ' ' + std::to_string(total);
+            text += " / " + std::to_string(l) + ' ' + std::to_string(count) + ' ' + std::to_string(all.total) + ' ' +
+                    std::to_string(all.since);
         }
         return text;
     } catch (const Refusal& r) {

@@ -99,6 +99,11 @@ fi
 
 # ---------------------------------------------------------------- vectors
 
+names=()
+for cases in tests/vectors/*.cases; do
+    name=${cases##*/}
+    names+=("${name%.cases}")
+done
 build_call() { "$CC" "${cflags[@]}" -O2 -c tests/call.c -o "$BUILD/call.o"; }
 build_answer() { build_call && "$CC" "${cflags[@]}" -O2 tests/answer.c "$BUILD/call.o" "$LIB" -o "$BUILD/answer"; }
 build_compare() {
@@ -106,7 +111,7 @@ build_compare() {
 }
 
 if can "vectors, library" "${for_c[@]}" && built "vectors, library" build_answer; then
-    for name in small one two; do
+    for name in "${names[@]}"; do
         vectors tests/vectors "$name" "library" "${run[@]}" "$BUILD/answer"
     done
     if can "vectors prefixes" python3; then
@@ -124,15 +129,15 @@ if [ ! -f $levels ]; then
     echo "program levels: left out, there is no $levels (rt check levels)"
     left_out=$((left_out + 1))
 elif can "program levels" python3 "${for_c[@]}"; then
-    tests/levels.py answers small one two >"$BUILD/levels.answers"
+    tests/levels.py answers "${names[@]}" >"$BUILD/levels.answers"
     same "program levels" "$BUILD/levels.out" "$BUILD/levels.answers" \
-        tests/levels.py run small one two -- "${run[@]}" $levels
+        tests/levels.py run "${names[@]}" -- "${run[@]}" $levels
 fi
 
 # ---------------------------------------------------------------- the independent implementation, and CGAL
 
 if can "independent implementation" "${for_cxx[@]}" && built "independent implementation" build_compare; then
-    for name in small one two; do
+    for name in "${names[@]}"; do
         vectors tests/vectors "$name" "independent implementation" \
             "${run[@]}" "$BUILD/compare" --vectors "tests/vectors/$name.cases"
     done

@@ -75,6 +75,22 @@ pub struct Reading {
     pub count: u32,
 }
 
+/// A neighbour found by the direct walk, with the number of base entries read to find it, and the lowest level on which
+/// the dart already has it.
+#[derive(Clone, Copy, Debug, PartialEq, Eq)]
+pub struct Link {
+    pub neighbour: u16,
+    pub count: u32,
+    pub since: Level,
+}
+
+/// Of all readings of an unfolding: the sum of their counts, and the largest of their levels.
+#[derive(Clone, Copy, Debug, PartialEq, Eq)]
+pub struct Unfolding {
+    pub count: u32,
+    pub since: Level,
+}
+
 /// What a record that was taken says of itself.
 #[derive(Clone, Copy, Debug, PartialEq, Eq)]
 pub struct Header {
@@ -110,4 +126,4 @@ macro_rules! accepted {
     };
 }
 
-accepted!(ZgReading, ZgCount, ZgHeight, ZgPart, ZgRecord);
+accepted!(ZgReading, ZgLink, ZgUnfolding, ZgCount, ZgHeight, ZgPart, ZgRecord);

@@ -1,6 +1,26 @@
 //! A folded pyramid, borrowed, and the jobs that take one.
-use crate::answers::{Dimension, Level, Reading, Refusal};
+use crate::answers::{Dimension, Level, Link, Reading, Refusal, Unfolding};
 use crate::raw;
+
+/// The question, put to one of the two readings.
+macro_rules! ask {
+    ($reading:path, $pyramid:expr, $level:expr, $involution:expr, $dart:expr) => {
+        $reading(
+            $pyramid.n.0,
+            $pyramid.darts,
+            $pyramid.h.0,
+            $pyramid.rows.as_ptr(),
+            $pyramid.rows.len(),
+            $pyramid.lambda.as_ptr(),
+            $pyramid.lambda.len(),
+            $pyramid.delta.as_ptr(),
+            $pyramid.delta.len(),
+            $level.0,
+            $involution.0,
+            $dart,
+        )
+    };
+}
 
 /// A pyramid in folded form: n, N and h, the base rows, and Λ and Δ of each dart. Nothing is presumed of them; each job
 /// tests what it needs.
@@ -36,9 +56,16 @@ impl<'a> Pyramid<'a> {
         answer.accepted()
     }
 
-    /// One neighbour on a level by the direct walk, on any tables, checked before or not.
-    pub fn read(&self, level: Level, involution: Dimension, dart: u16) -> Result<Reading, Refusal> {
-        self.ask(raw::zg_read, level, involution, dart)
+    /// One neighbour on a level by the direct walk, on any tables, checked before or not, and since which level the
+    /// dart has had it.
+    pub fn read(&self, level: Level, involution: Dimension, dart: u16) -> Result<Link, Refusal> {
+        // Safety: every pointer comes from a slice with its own length.
+        let answer = unsafe { ask!(raw::zg_read, self, level, involution, dart) };
+        answer.accepted().map(|r| Link {
+            neighbour: r.neighbour,
+            count: r.count,
+            since: Level(r.since),
+        })
     }
 
     /// The same question answered level by level, each step a reading one level lower, down to the base.
@@ -48,42 +75,17 @@ impl<'a> Pyramid<'a> {
         involution: Dimension,
         dart: u16,
     ) -> Result<Reading, Refusal> {
-        self.ask(raw::zg_read_by_levels, level, involution, dart)
-    }
-
-    /// The question, put to one of the two readings.
-    fn ask(
-        &self,
-        reading: raw::ReadingFunction,
-        level: Level,
-        involution: Dimension,
-        dart: u16,
-    ) -> Result<Reading, Refusal> {
         // Safety: every pointer comes from a slice with its own length.
-        let answer = unsafe {
-            reading(
-                self.n.0,
-                self.darts,
-                self.h.0,
-                self.rows.as_ptr(),
-                self.rows.len(),
-                self.lambda.as_ptr(),
-                self.lambda.len(),
-                self.delta.as_ptr(),
-                self.delta.len(),
-                level.0,
-                involution.0,
-                dart,
-            )
-        };
+        let answer = unsafe { ask!(raw::zg_read_by_levels, self, level, involution, dart) };
         answer.accepted().map(|r| Reading {
             neighbour: r.neighbour,
             count: r.count,
         })
     }
 
-    /// Unfolds a whole level into the table; the total count of base entries read.
-    pub fn unfold(&self, level: Level, table: &mut [u16]) -> Result<u32, Refusal> {
+    /// Unfolds a whole level into the table; the total count of base entries read, and the latest level since which one
+    /// of its links stands.
+    pub fn unfold(&self, level: Level, table: &mut [u16]) -> Result<Unfolding, Refusal> {
         // Safety: every pointer comes from a slice with its own length, and only the exclusive one is written through.
         let answer = unsafe {
             raw::zg_unfold(
@@ -101,7 +103,10 @@ impl<'a> Pyramid<'a> {
                 table.len(),
             )
         };
-        answer.accepted().map(|r| r.count)
+        answer.accepted().map(|r| Unfolding {
+            count: r.count,
+            since: Level(r.since),
+        })
     }
 
     /// The mark row of a level, read back: [`crate::marks_of`].

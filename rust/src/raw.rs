@@ -27,7 +27,11 @@ macro_rules! answers {
 answers! {
     /// `zg_reading`
     ZgReading { count: u32, neighbour: u16 }
-    /// `zg_count`: an unfolding's total; survivors.
+    /// `zg_link`
+    ZgLink { count: u32, neighbour: u16, since: u8 }
+    /// `zg_unfolding`
+    ZgUnfolding { count: u32, since: u8 }
+    /// `zg_count`: survivors.
     ZgCount { count: u32 }
     /// `zg_height`: after an add; as given in a refusal.
     ZgHeight { height: u8 }
@@ -36,22 +40,6 @@ answers! {
     /// `zg_record`
     ZgRecord { n: u8, h: u8, darts: u16 }
 }
-
-/// The type of both readings, [`zg_read`] and [`zg_read_by_levels`].
-pub type ReadingFunction = unsafe extern "C" fn(
-    n: u8,
-    darts: u16,
-    h: u8,
-    rows: *const u16,
-    rows_len: usize,
-    lambda: *const u8,
-    lambda_len: usize,
-    delta: *const u8,
-    delta_len: usize,
-    level: u8,
-    involution: u8,
-    dart: u16,
-) -> ZgReading;
 
 extern "C" {
     pub fn zg_version() -> u32;
@@ -114,7 +102,7 @@ extern "C" {
         level: u8,
         involution: u8,
         dart: u16,
-    ) -> ZgReading;
+    ) -> ZgLink;
 
     pub fn zg_read_by_levels(
         n: u8,
@@ -144,7 +132,7 @@ extern "C" {
         level: u8,
         table: *mut u16,
         table_len: usize,
-    ) -> ZgCount;
+    ) -> ZgUnfolding;
 
     pub fn zg_row(
         n: u8,

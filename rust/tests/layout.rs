@@ -1,6 +1,8 @@
 //! The structs have the sizes, alignments and offsets that gcc gives those of include/zompelgors.h on x86-64.
 use std::mem::{align_of, size_of};
-use zompelgors::raw::{ZgCount, ZgHeight, ZgPart, ZgReading, ZgRecord, ZgRefusal};
+use zompelgors::raw::{
+    ZgCount, ZgHeight, ZgLink, ZgPart, ZgReading, ZgRecord, ZgRefusal, ZgUnfolding,
+};
 
 fn layout<T>() -> (usize, usize) {
     (size_of::<T>(), align_of::<T>())
@@ -10,6 +12,8 @@ fn layout<T>() -> (usize, usize) {
 fn sizes_and_alignments() {
     assert_eq!(layout::<ZgRefusal>(), (8, 2));
     assert_eq!(layout::<ZgReading>(), (16, 4));
+    assert_eq!(layout::<ZgLink>(), (16, 4));
+    assert_eq!(layout::<ZgUnfolding>(), (16, 4));
     assert_eq!(layout::<ZgCount>(), (12, 4));
     assert_eq!(layout::<ZgHeight>(), (10, 2));
     assert_eq!(layout::<ZgPart>(), (14, 2));
@@ -28,6 +32,11 @@ fn offsets() {
     assert_eq!(offset!(ZgRefusal, dart), 6);
     assert_eq!(offset!(ZgReading, count), 8);
     assert_eq!(offset!(ZgReading, neighbour), 12);
+    assert_eq!(offset!(ZgLink, count), 8);
+    assert_eq!(offset!(ZgLink, neighbour), 12);
+    assert_eq!(offset!(ZgLink, since), 14);
+    assert_eq!(offset!(ZgUnfolding, count), 8);
+    assert_eq!(offset!(ZgUnfolding, since), 12);
     assert_eq!(offset!(ZgCount, count), 8);
     assert_eq!(offset!(ZgHeight, height), 8);
     assert_eq!(offset!(ZgPart, unfolded), 8);
@@ -41,6 +50,8 @@ fn offsets() {
 #[test]
 fn every_answer_begins_with_its_refusal() {
     assert_eq!(offset!(ZgReading, refusal), 0);
+    assert_eq!(offset!(ZgLink, refusal), 0);
+    assert_eq!(offset!(ZgUnfolding, refusal), 0);
     assert_eq!(offset!(ZgCount, refusal), 0);
     assert_eq!(offset!(ZgHeight, refusal), 0);
     assert_eq!(offset!(ZgPart, refusal), 0);

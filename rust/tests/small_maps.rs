@@ -1,7 +1,7 @@
 //! The small maps of docs/SCOPE.md, read through the binding.
 use zompelgors::{
-    add, check_base, mark_cells, row, survivors, Dimension, Level, Pyramid, PyramidBuf, Reading,
-    Refusal, ABSENT, STAY, WORDS,
+    add, check_base, mark_cells, row, survivors, Dimension, Level, Link, Pyramid, PyramidBuf,
+    Refusal, Unfolding, ABSENT, STAY, WORDS,
 };
 
 const SQUARE: [u16; 16] = [1, 0, 3, 2, 5, 4, 7, 6, 7, 2, 1, 4, 3, 6, 5, 0];
@@ -21,8 +21,19 @@ fn refused(number: u16, level: u16, involution: u16, dart: u16) -> Refusal {
     }
 }
 
-fn reading(neighbour: u16, count: u32) -> Result<Reading, Refusal> {
-    Ok(Reading { neighbour, count })
+fn link(neighbour: u16, count: u32, since: u8) -> Result<Link, Refusal> {
+    Ok(Link {
+        neighbour,
+        count,
+        since: Level(since),
+    })
+}
+
+fn unfolding(count: u32, since: u8) -> Result<Unfolding, Refusal> {
+    Ok(Unfolding {
+        count,
+        since: Level(since),
+    })
 }
 
 /// A map with the marks of its levels added one after the other.
@@ -52,14 +63,18 @@ impl Grown {
         self.pyramid.lend()
     }
 
-    fn read(&self, level: u8, involution: u8, dart: u16) -> Result<Reading, Refusal> {
+    fn read(&self, level: u8, involution: u8, dart: u16) -> Result<Link, Refusal> {
         let (level, involution) = (Level(level), Dimension(involution));
         let direct = self.lend().read(level, involution, dart);
-        assert_eq!(direct, self.lend().read_by_levels(level, involution, dart));
+        let by_levels = self.lend().read_by_levels(level, involution, dart);
+        assert_eq!(
+            direct.map(|r| (r.neighbour, r.count)),
+            by_levels.map(|r| (r.neighbour, r.count))
+        );
         direct
     }
 
-    fn cost(&self, level: u8) -> Result<u32, Refusal> {
+    fn unfolding(&self, level: u8) -> Result<Unfolding, Refusal> {
         self.lend()
             .unfold(Level(level), &mut vec![0; self.pyramid.entries()])
     }
@@ -85,22 +100,23 @@ fn p1_segment() {
     let mut table = [7; 4];
     assert_eq!(pyramid.check(&mut table), Ok(()));
     assert_eq!(table, [0, ABSENT, 0, ABSENT]);
-    assert_eq!(pyramid.read(Level(1), Dimension(0), 0), reading(0, 3));
-    assert_eq!(pyramid.unfold(Level(1), &mut table), Ok(4));
+    assert_eq!(pyramid.read(Level(1), Dimension(0), 0), link(0, 3, 1));
+    assert_eq!(pyramid.unfold(Level(1), &mut table), unfolding(4, 1));
 }
 
 #[test]
 fn p3_p4_square() {
     let mut square = Grown::new(1, &SQUARE);
     assert_eq!(square.add(Dimension(0), &[1, 2]), Ok(Level(1)));
-    assert_eq!(square.read(1, 0, 0), reading(3, 3));
-    assert_eq!(square.read(1, 0, 3), reading(0, 3));
-    assert_eq!(square.cost(1), Ok(16));
+    assert_eq!(square.read(1, 0, 0), link(3, 3, 1));
+    assert_eq!(square.read(1, 0, 3), link(0, 3, 1));
+    assert_eq!(square.unfolding(1), unfolding(16, 1));
     assert_eq!(square.add(Dimension(0), &[3, 4]), Ok(Level(2)));
     assert_eq!(square.lend().h, Level(2));
     assert_eq!(square.lend().lambda, [2, 0, 0, 1, 1, 2, 2, 2]);
-    assert_eq!(square.read(2, 0, 0), reading(5, 5));
-    assert_eq!(square.cost(2), Ok(16));
+    assert_eq!(square.read(2, 0, 0), link(5, 5, 2));
+    assert_eq!(square.read(2, 0, 6), link(7, 1, 0));
+    assert_eq!(square.unfolding(2), unfolding(16, 2));
 }
 
 #[test]
@@ -138,7 +154,7 @@ fn p8_p9_star() {
     let star = star();
     assert_eq!(star.read(1, 1, 1).map(|r| r.neighbour), Ok(4));
     assert_eq!(star.read(1, 1, 4).map(|r| r.neighbour), Ok(1));
-    assert_eq!(star.read(2, 0, 7), reading(10, 5));
+    assert_eq!(star.read(2, 0, 7), link(10, 5, 2));
     assert_eq!(star.lend().check(&mut [0; 36]), Ok(()));
 }
 
@@ -171,7 +187,7 @@ fn star_levels() {
     let star = star();
     let mut words = [1; WORDS];
     for (level, total, bits) in [(0, 36, 0xfff), (1, 28, 0xcf3), (2, 24, 0xcc0u64)] {
-        assert_eq!(star.cost(level), Ok(total));
+        assert_eq!(star.unfolding(level), unfolding(total, level));
         assert_eq!(
             star.lend().survivors(Level(level), &mut words),
             Ok(bits.count_ones())

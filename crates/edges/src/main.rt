@@ -70,8 +70,8 @@ fn unchecked_reading() {
         Dim(0),
         0,
     ) {
-        questions::Reading::Found(_) => taken(b"unchecked reading"),
-        questions::Reading::Refused(r) => refused(b"unchecked reading", r),
+        reading::Reading::Found(_) => taken(b"unchecked reading"),
+        reading::Reading::Refused(r) => refused(b"unchecked reading", r),
     }
 }
 

@@ -19,3 +19,10 @@ pub mod AcceptedJobs
 pub mod AddedJobs
 pub mod ExactJobs
 pub mod MarksJobs
+pub mod Namings
+pub mod Trails
+pub mod Towers
+pub mod TowerLinks
+pub mod Pyramids
+pub mod Links
+pub mod LinkedJobs

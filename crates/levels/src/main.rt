@@ -1,9 +1,10 @@
-// Takes a record from standard input, checks it, unfolds each level and prints: n, N, h; then for each level its number, survivors and total count.
+// Takes a record from standard input, checks it, unfolds each level and prints: n, N, h; then for each level its number, survivors, total count, and since which level all its links stand.
 // It keeps 156,160 bytes: the input (65,536), rows and a table (40,960 each), Λ and Δ (4,096 each) and survivor words (512). Assumes the contracts of read and write.
 use answers::Check;
 use answers::Dim;
 use answers::Level;
 use answers::Refusal;
+use reading::Unfolding;
 
 fn three(a: u64, b: u64, c: u64) {
     io::print_decimal(1, a);
@@ -11,7 +12,6 @@ fn three(a: u64, b: u64, c: u64) {
     io::print_decimal(1, b);
     io::write_all(1, b" ");
     io::print_decimal(1, c);
-    io::write_all(1, b"\n");
 }
 
 // A refusal prints one line: the word refused, then number, level, involution and dart.
@@ -21,6 +21,15 @@ fn refuse(refusal: Refusal) {
     io::print_decimal(1, r.number as u64);
     io::write_all(1, b" ");
     three(r.level as u64, r.involution as u64, r.dart as u64);
+    io::write_all(1, b"\n");
+}
+
+// Number, survivors, total count, and since which level all links stand.
+fn level_line(level: Level, survivors: u32, all: Unfolding) {
+    three(level.0 as u64, survivors as u64, all.count as u64);
+    io::write_all(1, b" ");
+    io::print_decimal(1, all.since.0 as u64);
+    io::write_all(1, b"\n");
 }
 
 // One level's line; in an accepted pyramid neither job refuses it.
@@ -48,7 +57,7 @@ fn one_level(
             table,
         ) {
             reading::Total::Refused(r) => refuse(r),
-            reading::Total::Counted(total) => three(level.0 as u64, survivors as u64, total as u64),
+            reading::Total::Counted(all) => level_line(level, survivors, all),
         },
     }
 }
@@ -94,6 +103,7 @@ fn print_checked(
         return;
     }
     three(n.0 as u64, darts as u64, h.0 as u64);
+    io::write_all(1, b"\n");
     all_levels(n, darts, h, rows, lambda, delta, table);
 }
 

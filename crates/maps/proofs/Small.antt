@@ -10,6 +10,7 @@ use Rattle.maps.specs.Removal.{goOn, removal}
 use Rattle.maps.specs.Table.{entry, each, listed, explicit}
 use Rattle.maps.specs.Folded.{gone, marks, level, levelTable}
 use Rattle.maps.specs.Walk.{Walked, ended, walkFrom, walk}
+use Rattle.maps.specs.Trail.{sinceOf, largest, trailFrom, trail, since, latest}
 use Rattle.maps.specs.ByLevels.{readBase, overLevel, readLevel, byLevels}
 use Rattle.maps.specs.Cost.{reads, cost}
 use Rattle.maps.specs.Check.{at5, at6, at7, check5, check6, check7, checkMap, at9, at10, check9, check10, checkKernel, at8, check8, kernelAt, checkKernels, checkPyramid}
@@ -124,4 +125,30 @@ small-maps = record {
   p8 = (refl, refl);
   p9 = (refl, refl, refl, refl, refl, refl, refl, refl);
   p10 = refl;
+}
+
+-- ---- since which level a link stands
+
+abbrev sinces : Lent → ℕ → ℕ → ℕ → ℕ
+sinces p l i b = since (entry p.N p.rows) p.N (each p.lambda) (each p.delta) l i b
+
+abbrev latests : Lent → ℕ → ℕ
+latests p l = latest (entry p.N p.rows) p.N (each p.lambda) (each p.delta) l p.n
+
+pub record SmallLinks : Type 0 where
+  -- on the segment the link of 0 to itself stands since its vertex was removed; an empty level has no link
+  pub segment-links : (sinces one 0 0 0 ≡ 0) × (sinces one 1 0 0 ≡ 1) × (latests both 1 ≡ 0)
+  -- the square's corners go one after the other; the links that pass none of them stand since the base
+  pub corner-links : (sinces corners 1 0 0 ≡ 1) × (sinces corners 2 0 0 ≡ 2) × (sinces corners 2 0 5 ≡ 2) × (sinces corners 2 0 6 ≡ 0)
+  -- the star's fourth column; a0 of 7 on level 2 passes 1, 2, 3, 4, of the kernels 1, 0, 0, 1, and a0 of 10 passes them in the reverse order
+  pub star-links : (latests star 0 ≡ 0) × (latests star 1 ≡ 1) × (latests star 2 ≡ 2) × (sinces star 2 0 7 ≡ 2)
+  pub star-trails : (trail (entry 12 starRows) 12 (each (star .lambda)) (each (star .delta)) 2 0 7 ≡ 1 ∷ 2 ∷ 3 ∷ 4 ∷ []) × (trail (entry 12 starRows) 12 (each (star .lambda)) (each (star .delta)) 2 0 10 ≡ 4 ∷ 3 ∷ 2 ∷ 1 ∷ [])
+
+pub small-links : SmallLinks
+unfolding between sinceOf largest trailFrom trail since latest
+small-links = record {
+  segment-links = (refl, refl, refl);
+  corner-links = (refl, refl, refl, refl);
+  star-links = (refl, refl, refl, refl);
+  star-trails = (refl, refl);
 }

@@ -10,6 +10,7 @@ pub mod Table
 pub mod Folded
 pub mod MarkRow
 pub mod Walk
+pub mod Trail
 pub mod ByLevels
 pub mod Cost
 pub mod Pyramid

@@ -8,6 +8,7 @@ use Rattle.maps.specs.Sizes.{sizes, number4, number11, number13, hasLeng
 use Rattle.maps.specs.Table.{entry, each}
 use Rattle.maps.specs.Folded.{gone, refusedMarks}
 use Rattle.maps.specs.Walk.{Walked, ended, stopped, walk}
+use Rattle.maps.specs.Trail.{since}
 use Rattle.maps.specs.ByLevels.{byLevels}
 
 -- Scope: 'Read one neighbour'. A neighbour with its count, or a refusal.
@@ -25,6 +26,11 @@ abbrev pub readingOf : ℕ → Walked → Reading
 readingOf l (ended row dart count) = found dart count
 readingOf l (stopped number row dart) = none number l row dart
 
+-- Scope: 'Left behind'. A number where a neighbour is found, 0 in a refusal.
+abbrev pub ifFound : Reading → ℕ → ℕ
+ifFound (found neighbour count) number = number
+ifFound (none number level involution dart) x = 0
+
 module _ (n N h : ℕ) (rows lambda delta : List ℕ) (l i d : ℕ) where
   -- Scope: 'Order of tests'. Sizes, lengths, level and involution, then 12 of a dart that isn't there, then 8 and 12 of the starting dart.
   unfoldable pub question : Verdict
@@ -39,6 +45,10 @@ module _ (n N h : ℕ) (rows lambda delta : List ℕ) (l i d : ℕ) where
   -- Scope: 'Read one neighbour'. The answer by the direct walk.
   unfoldable pub readLent : Reading
   readLent = unless question (readingOf l (walk (entry N rows) n N h (each lambda) (each delta) l i d))
+
+  -- Scope: 'Since which level'. One more than the largest Λ passed, or 0 if no dart was passed; 0 in a refusal.
+  unfoldable pub readSince : ℕ
+  readSince = ifFound readLent (since (entry N rows) N (each lambda) (each delta) l i d)
 
   -- Scope: 'Read by levels'. The answer by levels.
   unfoldable pub readLentByLevels : Reading

@@ -9,6 +9,7 @@ use Rattle.maps.specs.Sizes.{sizes, number4, number11, hasLength}
 use Rattle.maps.specs.Table.{entry, each, listed, absent, explicit}
 use Rattle.maps.specs.Folded.{survives}
 use Rattle.maps.specs.Walk.{Walked, ended, stopped, walk}
+use Rattle.maps.specs.Trail.{latest}
 use Rattle.maps.specs.Cost.{cost}
 use Rattle.maps.specs.MarksBack.{atMarks8}
 
@@ -42,6 +43,10 @@ module _ (n N h : ℕ) (rows lambda delta : List ℕ) (l : ℕ) (table : List �
   -- Scope: 'Unfold a level'. The sum of all counts; 0 in a refusal.
   unfoldable pub unfoldTotal : ℕ
   unfoldTotal = ifAccepted unfoldLent (cost (entry N rows) n N h (each lambda) (each delta) l) 0
+
+  -- Scope: 'Since which level'. The largest over the level's readings, 0 in a refusal.
+  unfoldable pub unfoldSince : ℕ
+  unfoldSince = ifAccepted unfoldLent (latest (entry N rows) N (each lambda) (each delta) l n) 0
 
   -- Scope: 'Left behind'. After 5, 14 or 15 the table is 65,535 throughout; after any other number as found.
   abbrev pub unfolded : Verdict → List ℕ → List ℕ

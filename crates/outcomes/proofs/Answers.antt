@@ -16,7 +16,9 @@ use Rattle.answers.specs.declared.Check.the-variants.{Accepted, Refused}
 use Rattle.questions.specs.Answers.{valueOf}
 use Rattle.questions.specs.declared.Reading.{Reading}
 use Rattle.questions.specs.declared.Reading.the-variants.{Found, Refused as Unread}
-use Rattle.reading.specs.Answers.{checkOf, totalOf}
+use Rattle.reading.specs.Answers.{valueOf as linkOf, standsSince, checkOf, totalOf, latestOf}
+use Rattle.reading.specs.declared.Reading.{Reading as Linked}
+use Rattle.reading.specs.declared.Reading.the-variants.{Found as Stands, Refused as Unlinked}
 use Rattle.reading.specs.declared.Total.{Total}
 use Rattle.reading.specs.declared.Total.the-variants.{Counted, Refused as Uncounted}
 use Rattle.rows.specs.Answers.{verdictOfSurvivors, countOfSurvivors}
@@ -81,7 +83,7 @@ pub check-told : (c : Check) → checkFrom (verdictOf c) ≡ c
 check-told Accepted = refl
 check-told (Refused r) = refusal-told checkFrom Refused (λ k l i d. refl) r
 
--- the answer of a reading
+-- the answer of a reading by levels
 abbrev pub readingFrom : Value → Reading
 readingFrom (found neighbour count) = Found (record { dart = neighbour; count = count })
 readingFrom (none k l i d) = Unread (refusalFrom k l i d)
@@ -90,16 +92,28 @@ pub reading-told : (r : Reading) → readingFrom (valueOf r) ≡ r
 reading-told (Found neighbour) = refl
 reading-told (Unread r) = refusal-told (λ v. readingFrom (unless v (none 0 0 0 0))) Unread (λ k l i d. refl) r
 
--- the answer of an unfolding: verdict and total
-abbrev pub valuesOfTotal : Total → Verdict × ℕ
-valuesOfTotal t = (checkOf t, totalOf t)
+-- the answer of a direct reading: the same, and since which level the link stands
+abbrev pub valuesOfLink : Linked → Value × ℕ
+valuesOfLink r = (linkOf r, standsSince r)
 
-abbrev pub totalFrom : Verdict × ℕ → Total
-totalFrom x = fromVerdict (Counted (x .1)) Uncounted (x .0)
+abbrev pub linkFrom : Value × ℕ → Linked
+linkFrom (found neighbour count, since) = Stands (record { dart = neighbour; count = count; since = level since })
+linkFrom (none k l i d, since) = Unlinked (refusalFrom k l i d)
+
+pub link-told : (r : Linked) → linkFrom (valuesOfLink r) ≡ r
+link-told (Stands link) = refl
+link-told (Unlinked r) = refusal-told (λ v. linkFrom (unless v (none 0 0 0 0), 0)) Unlinked (λ k l i d. refl) r
+
+-- the answer of an unfolding: verdict, total, and since which level all links stand
+abbrev pub valuesOfTotal : Total → Verdict × ℕ × ℕ
+valuesOfTotal t = (checkOf t, totalOf t, latestOf t)
+
+abbrev pub totalFrom : Verdict × ℕ × ℕ → Total
+totalFrom x = fromVerdict (Counted (record { count = x .1; since = level (x .2) })) Uncounted (x .0)
 
 pub total-told : (t : Total) → totalFrom (valuesOfTotal t) ≡ t
-total-told (Counted total) = refl
-total-told (Uncounted r) = refusal-told (fromVerdict (Counted 0) Uncounted) Uncounted (λ k l i d. refl) r
+total-told (Counted all) = refl
+total-told (Uncounted r) = refusal-told (λ v. totalFrom (v, 0, 0)) Uncounted (λ k l i d. refl) r
 
 -- the answer of the survivor words: verdict and count
 abbrev pub valuesOfSurvivors : Survivors → Verdict × ℕ

@@ -32,7 +32,7 @@ use Rattle.levelwise.proofs.read_by_levels.Reads as by-levels
 use Rattle.cells.proofs.mark_cells.Reads as mark-cells
 use Rattle.records.proofs.take.Reads as take
 use Rattle.outcomes.proofs.One.{OneOutcome, one-outcome, nothing, three, same-three}
-use Rattle.outcomes.proofs.Answers.{checkFrom, check-told, readingFrom, reading-told, valuesOfTotal, totalFrom, total-told, valuesOfSurvivors, survivorsFrom, survivors-told, valuesOfAdded, addedFrom, added-told, takenFrom, taken-told, numbersFrom, numbers-told}
+use Rattle.outcomes.proofs.Answers.{checkFrom, check-told, readingFrom, reading-told, valuesOfLink, linkFrom, link-told, valuesOfTotal, totalFrom, total-told, valuesOfSurvivors, survivorsFrom, survivors-told, valuesOfAdded, addedFrom, added-told, takenFrom, taken-told, numbersFrom, numbers-told}
 use Rattle.outcomes.proofs.Cells.{marking-same}
 
 pub check-base-one : (κs : Lfts 1) → OneOutcome (check-base.Learnt κs) (λ r. r) nothing
@@ -59,14 +59,14 @@ pub question-one : (κs : Lfts 3) → OneOutcome (question.Learnt κs) (λ r. r)
 question-one κs = one-outcome _ _ _ (λ a. verdictOf) checkFrom (λ a. check-told) _ _ (λ a r s c. (c, refl))
 
 pub read-one : (κs : Lfts 3) → OneOutcome (read.Learnt κs) (λ r. r) nothing
-read-one κs = one-outcome _ _ _ (λ a. valueOf) readingFrom (λ a. reading-told) _ _ (λ a r s c. (c, refl))
+read-one κs = one-outcome _ _ _ (λ a. valuesOfLink) linkFrom (λ a. link-told) _ _ (λ a r s c. (ap₂ (λ v x. (v, x)) (c .0) (c .1), refl))
 
 pub read-by-levels-one : (κs : Lfts 3) → OneOutcome (by-levels.Learnt κs) (λ r. r) nothing
 read-by-levels-one κs = one-outcome _ _ _ (λ a. valueOf) readingFrom (λ a. reading-told) _ _ (λ a r s c. (c, refl))
 
 -- the table
 pub unfold-one : (κs : Lfts 4) → OneOutcome (unfold-level.Learnt κs) (λ r. r) (λ s. now (s .1 .1 .1 .1 .1 .1 .1 .0))
-unfold-one κs = one-outcome _ _ _ (λ a. valuesOfTotal) totalFrom (λ a. total-told) _ _ (λ a r s c. (ap₂ (λ v t. (v, t)) (c .0) (c .1 .0), c .1 .1))
+unfold-one κs = one-outcome _ _ _ (λ a. valuesOfTotal) totalFrom (λ a. total-told) _ _ (λ a r s c. ((λ k. (c .0 k, c .1 .0 k, c .1 .1 .0 k)), c .1 .1 .1))
 
 -- A row is fixed in what it holds. Which of two slices an empty part is of is not said.
 pub row-one : (κs : Lfts 1) → OneOutcome (row.Learnt κs) now nothing

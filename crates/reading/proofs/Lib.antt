@@ -1,3 +1,3 @@
 pub mod Walking
 pub mod Filled
-pub mod Unfolding
+pub mod Unfolds

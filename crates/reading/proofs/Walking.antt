@@ -2,65 +2,25 @@
 use mathlib.Core.Path.{_≡_, refl, sym, ap, _∙_}
 use mathlib.Core.Bool.{Bool, true, false, cond, not}
 use mathlib.Core.List.{List}
-use Prim.Native.Nat.{ℕ, suc, _+_, _-_, _*_, _≤_, _<_}
+use Prim.Native.Nat.{ℕ, suc, _+_, _-_, _*_, _≤_, _<_, max}
+use lib.ListN.{length}
 use native.Mathlib.Numerals.{add-one}
 use native.Mathlib.Omega.{arith}
 use lib.Dec.{eqb}
-use lib.ListN.{length}
-use borrow.Author.Tests.{lt-ltb, le-ltb, not-true, not-false}
+use borrow.Author.Tests.{lt-ltb, le-ltb, not-false}
 use Rattle.maps.specs.Mark.{isMark, stay, between, canPass, across}
 use Rattle.maps.specs.Table.{entry, each}
 use Rattle.maps.specs.Folded.{refusedMarks}
 use Rattle.maps.specs.Walk.{Walked, ended, stopped, walkFrom, walk}
+use Rattle.maps.specs.Trail.{sinceOf, trailFrom, trail, since}
+use Rattle.maps.specs.Read.{found, none, readingOf, ifFound}
 use Rattle.laws.proofs.Marks.{mark-byte, mark-rows}
 use Rattle.laws.proofs.Tables.{in-table, table-size}
 use Rattle.questions.specs.Lent.{Lent}
 use Rattle.reading.specs.Walks.{Allowed, Meets}
 
--- the walk of dart b by involution i at level l, and the rest of it
-abbrev whole : List ℕ → List ℕ → List ℕ → ℕ → ℕ → ℕ → ℕ → ℕ → ℕ → Walked
-whole rows lambda delta n N h l i b = walk (entry N rows) n N h (each lambda) (each delta) l i b
-
-abbrev rest : List ℕ → List ℕ → List ℕ → ℕ → ℕ → ℕ → ℕ → ℕ → ℕ → ℕ → ℕ → ℕ → ℕ → Walked
-rest rows lambda delta n N h l i b = walkFrom (entry N rows) n N h (each lambda) (each delta) l i b
-
--- row t of dart d is read next, after c reads
-pub record Next (rows lambda delta : List ℕ) (n N h l i b t d c : ℕ) : Type 0 where
-  pub row : t ≤ n
-  pub dart : d < N
-  pub few : c < 1 + 2 * N
-  pub same : whole rows lambda delta n N h l i b ≡ rest rows lambda delta n N h l i b (1 + 2 * N - c) t d c
-
--- read number c was of row t and met dart e, which is not on the level and whose marks are allowed
-pub record Met (rows lambda delta : List ℕ) (n N h l i b t e c : ℕ) : Type 0 where
-  pub from : ℕ
-  pub before : ℕ
-  pub next : Next rows lambda delta n N h l i b t from before
-  pub reads : c ≡ before + 1
-  pub meets : Meets N rows lambda l n t from e
-  pub low : l ≤ h
-  pub fine : refusedMarks n h (each lambda e) (each delta e) ≡ false
-
-pub next-first : {rows lambda delta : List ℕ} {n N h l i b : ℕ} → i ≤ n → b < N → Next rows lambda delta n N h l i b i b 0
-unfolding walk
-next-first {rows} {lambda} {delta} {n} {N} {h} {l} {i} {b} x y =
-    let k : 1 + 2 * N ≡ 1 + 2 * N - 0 = omega arith in
-    record { row = x; dart = y; few = omega arith; same = ap (λ (z : ℕ). rest rows lambda delta n N h l i b z i b 0) k }
-
-pub met-first : {rows lambda delta : List ℕ} {n N h l i b e : ℕ} → Allowed n N h rows lambda delta l → Meets N rows lambda l n i b e → Met rows lambda delta n N h l i b i e 1
-met-first {b = b} {e = e} p m =
-    record { from = b; before = 0; next = next-first (m .row) (m .start); reads = refl; meets = m; low = p .lent .level; fine = p .allowed e (m .dart) }
-
--- the entry that is read next lies in the rows, which are few
-pub next-fits : {rows lambda delta : List ℕ} {n N h l i b t d c : ℕ} → Lent n N h rows lambda delta l → Next rows lambda delta n N h l i b t d c → (t * N + d < length rows) × (length rows ≤ 20480)
-next-fits {n = n} {N = N} {t = t} {d = d} p s =
-    let z = table-size n N t (p .dimension) (p .darts) (s .row) in
-    let q = in-table n N t d (s .row) (s .dart) in
-    let r = p .rows-length in
-    (omega arith, omega arith)
-
 -- of a dart that is gone the mark alone is tested
-gone-marks : (n h lambda delta l : ℕ) → l ≤ h → lambda < l → refusedMarks n h lambda delta ≡ not (isMark n delta)
+pub gone-marks : (n h lambda delta l : ℕ) → l ≤ h → lambda < l → refusedMarks n h lambda delta ≡ not (isMark n delta)
 gone-marks n h lambda delta l f g = rw (le-ltb h lambda (omega arith), lt-ltb lambda h (omega arith))
 
 -- a walk goes on by a row of the map
@@ -71,70 +31,133 @@ across-row n mark t q = go (eqb t (between mark .0))
     go true = mark-rows n mark q .second
     go false = mark-rows n mark q .first
 
--- what one read gives is what the walk gives
-one-read : {rows lambda delta : List ℕ} {n N h l i b t d c : ℕ} → Next rows lambda delta n N h l i b t d c → {w : Walked} → rest rows lambda delta n N h l i b (suc (2 * N - c)) t d c ≡ w → whole rows lambda delta n N h l i b ≡ w
-one-read {rows} {lambda} {delta} {n} {N} {h} {l} {i} {b} {t} {d} {c} s e =
-    let f = s .few in
-    let k : 1 + 2 * N - c ≡ suc (2 * N - c) = omega arith in
-    s .same ∙ ap (λ (z : ℕ). rest rows lambda delta n N h l i b z t d c) k ∙ e
+-- the entry of row t and dart d lies in the rows, which are few
+pub entry-fits : {n N h l t d : ℕ} {rows lambda delta : List ℕ} → Lent n N h rows lambda delta l → t ≤ n → d < N → (t * N + d < length rows) × (length rows ≤ 20480)
+entry-fits {n} {N} {h} {l} {t} {d} p x y =
+    let z = table-size n N t (p .dimension) (p .darts) x in
+    let q = in-table n N t d x y in
+    let r = p .rows-length in
+    (omega arith, omega arith)
 
--- the entry read is e
-module _ {rows lambda delta : List ℕ} {n N h l i b t d c e : ℕ} (s : Next rows lambda delta n N h l i b t d c) (r : e ≡ entry N rows t d) where
-  pub strays : N ≤ e → whole rows lambda delta n N h l i b ≡ stopped 5 t d
-  unfolding walkFrom
-  strays x = one-read s (simp (← r, le-ltb e N x, walkFrom))
+-- what a walk that stops gives
+pub stop-says : {w : Walked} {number row dart : ℕ} {l : ℕ} (stands : ℕ) → w ≡ stopped number row dart → (none number l row dart ≡ readingOf l w) × (0 ≡ ifFound (readingOf l w) stands)
+stop-says stands e = rw e (refl, refl)
 
-  module _ (x : e < N) where
-    pub bad-marks : {bad : Bool} → bad ≡ refusedMarks n h (each lambda e) (each delta e) → bad ≡ true → whole rows lambda delta n N h l i b ≡ stopped 8 t e
+-- and one that ends
+pub end-says : {w : Walked} {row dart count s stands : ℕ} (l : ℕ) → w ≡ ended row dart count → s ≡ stands → (found dart count ≡ readingOf l w) × (s ≡ ifFound (readingOf l w) stands)
+end-says l e f = rw e (refl, f)
+
+-- row t of dart d is read next, after c reads, and s is the level so far: the whole walk is the rest of it, and so are the darts it passes
+pub record Next (rows lambda delta : List ℕ) (n N h l i b t d c s : ℕ) : Type 0 where
+  pub row : t ≤ n
+  pub dart : d < N
+  pub few : c < 1 + 2 * N
+  pub same : walk (entry N rows) n N h (each lambda) (each delta) l i b ≡ walkFrom (entry N rows) n N h (each lambda) (each delta) l i b (1 + 2 * N - c) t d c
+  pub raised : since (entry N rows) N (each lambda) (each delta) l i b ≡ max s (sinceOf (each lambda) (trailFrom (entry N rows) N (each lambda) (each delta) l (1 + 2 * N - c) t d))
+
+pub next-first : (rows lambda delta : List ℕ) (n N h l i b : ℕ) → i ≤ n → b < N → Next rows lambda delta n N h l i b i b 0 0
+unfolding walk since trail
+next-first rows lambda delta n N h l i b x y =
+    let k : 1 + 2 * N ≡ 1 + 2 * N - 0 = omega arith in
+    let passed : ℕ → ℕ = λ z. sinceOf (each lambda) (trailFrom (entry N rows) N (each lambda) (each delta) l z i b) in
+    record { row = x; dart = y; few = omega arith; same = ap (λ (z : ℕ). walkFrom (entry N rows) n N h (each lambda) (each delta) l i b z i b 0) k; raised = omega (arith, ap passed k) }
+
+module _ {rows lambda delta : List ℕ} {n N h l i b t d c so-far : ℕ} (s : Next rows lambda delta n N h l i b t d c so-far) where
+  abbrev the-walk : Walked
+  the-walk = walk (entry N rows) n N h (each lambda) (each delta) l i b
+
+  abbrev rest : ℕ → ℕ → ℕ → ℕ → Walked
+  rest = walkFrom (entry N rows) n N h (each lambda) (each delta) l i b
+
+  abbrev stands : ℕ
+  stands = since (entry N rows) N (each lambda) (each delta) l i b
+
+  -- the level that the darts give which are passed from row u of dart x on, with k reads left
+  abbrev passed : ℕ → ℕ → ℕ → ℕ
+  passed k u x = sinceOf (each lambda) (trailFrom (entry N rows) N (each lambda) (each delta) l k u x)
+
+  -- what one read gives is what the walk gives
+  one-read : {w : Walked} → rest (suc (2 * N - c)) t d c ≡ w → the-walk ≡ w
+  one-read e = let f = s .few in let k : 1 + 2 * N - c ≡ suc (2 * N - c) = omega arith in s .same ∙ ap (λ (z : ℕ). rest z t d c) k ∙ e
+
+  -- and for the darts passed
+  one-passed : {x : ℕ} → passed (suc (2 * N - c)) t d ≡ x → stands ≡ max so-far x
+  one-passed e = let f = s .few in let k : 1 + 2 * N - c ≡ suc (2 * N - c) = omega arith in s .raised ∙ ap (λ (z : ℕ). max so-far (passed z t d)) k ∙ ap (max so-far) e
+
+  -- the entry read is e
+  module _ {e : ℕ} (r : e ≡ entry N rows t d) where
+    pub strays : N ≤ e → the-walk ≡ stopped 5 t d
     unfolding walkFrom
-    bad-marks w q = one-read s (simp (← r, lt-ltb e N x, ← w, q, walkFrom))
+    strays x = one-read (simp (← r, le-ltb e N x, walkFrom))
 
-    pub arrives : {bad : Bool} → bad ≡ refusedMarks n h (each lambda e) (each delta e) → bad ≡ false → l ≤ each lambda e → whole rows lambda delta n N h l i b ≡ ended t e (c + 1)
-    unfolding walkFrom
-    arrives w q y = one-read s (simp (← r, lt-ltb e N x, ← w, q, le-ltb (each lambda e) l y, walkFrom, add-one))
-
-    -- it is not on the level
-    module _ (low : l ≤ h) (y : each lambda e < l) where
-      pub meets : refusedMarks n h (each lambda e) (each delta e) ≡ false → Met rows lambda delta n N h l i b t e (c + 1)
-      meets q = record { from = d; before = c; next = s; reads = refl; meets = record { row = s .row; start = s .dart; read = r; dart = x; gone = y }; low = low; fine = q }
-
-      -- is its mark one?
-      module _ {mark : Bool} (w : mark ≡ isMark n (each delta e)) where
-        decided : not mark ≡ refusedMarks n h (each lambda e) (each delta e)
-        decided = ap not w ∙ sym (gone-marks n h (each lambda e) (each delta e) l low y)
-
-        pub no-mark : not mark ≡ true → whole rows lambda delta n N h l i b ≡ stopped 8 t e
-        no-mark q = bad-marks decided q
-
-        pub meets-mark : not mark ≡ false → Met rows lambda delta n N h l i b t e (c + 1)
-        meets-mark q = meets (sym decided ∙ q)
-
-module _ {rows lambda delta : List ℕ} {n N h l i b t e c : ℕ} (s : Met rows lambda delta n N h l i b t e c) where
-  mark : isMark n (each delta e) ≡ true
-  mark = not-false (isMark n (each delta e)) (sym (gone-marks n h (each lambda e) (each delta e) l (s .low) (s .meets .gone)) ∙ s .fine)
-
-  pub met-byte : n ≤ 4 → each delta e < stay
-  met-byte f = mark-byte n (each delta e) (omega arith) mark
-
-  -- may the walk pass it?
-  module _ {pass : Bool} (r : pass ≡ canPass (each delta e) t) where
-    pub no-pass : not pass ≡ true → whole rows lambda delta n N h l i b ≡ stopped 14 t e
-    unfolding walkFrom
-    no-pass q =
-        let m = s .meets in
-        one-read (s .next) (simp (← (m .read), lt-ltb e N (m .dart), s .fine, lt-ltb (each lambda e) l (m .gone), ← r, not-true pass q, walkFrom))
-
-    module _ (q : not pass ≡ false) where
-      goes-on : whole rows lambda delta n N h l i b ≡ rest rows lambda delta n N h l i b (1 + 2 * N - c) (across (each delta e) t) e c
+    module _ (x : e < N) where
+      pub bad-marks : refusedMarks n h (each lambda e) (each delta e) ≡ true → the-walk ≡ stopped 8 t e
       unfolding walkFrom
-      goes-on =
-          let m = s .meets in
-          let k : 1 + 2 * N - c ≡ 2 * N - s .before = let z = s .reads in omega arith in
-          rw (k, s .reads, add-one) (one-read (s .next) (simp (← (m .read), lt-ltb e N (m .dart), s .fine, lt-ltb (each lambda e) l (m .gone), ← r, not-false pass q, walkFrom)))
+      bad-marks q = one-read (simp (← r, lt-ltb e N x, q, walkFrom))
 
-      pub long : c ≡ 1 + 2 * N → whole rows lambda delta n N h l i b ≡ stopped 15 i b
+      pub arrives : refusedMarks n h (each lambda e) (each delta e) ≡ false → l ≤ each lambda e → the-walk ≡ ended t e (c + 1)
       unfolding walkFrom
-      long k = let z : 1 + 2 * N - c ≡ 0 = omega arith in rw z at goes-on
+      arrives q y = one-read (simp (← r, lt-ltb e N x, q, le-ltb (each lambda e) l y, walkFrom, add-one))
 
-      pub passes : (c ≡ 1 + 2 * N → ⊥) → {u : ℕ} → u ≡ across (each delta e) t → Next rows lambda delta n N h l i b u e c
-      passes k v = let f = s .next .few in let z = s .reads in rw v record { row = across-row n (each delta e) t mark; dart = s .meets .dart; few = omega arith; same = goes-on }
+    -- it passes no dart more
+    pub arrived : l ≤ each lambda e → so-far ≡ stands
+    unfolding sinceOf trailFrom
+    arrived y = let z = one-passed {x = 0} (simp (← r, le-ltb (each lambda e) l y, trailFrom, sinceOf)) in omega (arith, z)
+
+  -- the dart read is e, which is not on the level and whose marks are allowed
+  module _ {e : ℕ} (m : Meets N rows lambda l n t d e) (low : l ≤ h) (q : refusedMarks n h (each lambda e) (each delta e) ≡ false) where
+    is-mark : isMark n (each delta e) ≡ true
+    is-mark = not-false (isMark n (each delta e)) (sym (gone-marks n h (each lambda e) (each delta e) l low (m .gone)) ∙ q)
+
+    pub met-byte : n ≤ 4 → each delta e < stay
+    met-byte f = mark-byte n (each delta e) (omega arith) is-mark
+
+    pub no-pass : canPass (each delta e) t ≡ false → the-walk ≡ stopped 14 t e
+    unfolding walkFrom
+    no-pass p = one-read (simp (← (m .read), lt-ltb e N (m .dart), q, lt-ltb (each lambda e) l (m .gone), p, walkFrom))
+
+    module _ (p : canPass (each delta e) t ≡ true) where
+      goes-on : the-walk ≡ rest (2 * N - c) (across (each delta e) t) e (c + 1)
+      unfolding walkFrom
+      goes-on = one-read (simp (← (m .read), lt-ltb e N (m .dart), q, lt-ltb (each lambda e) l (m .gone), p, walkFrom, add-one))
+
+      goes-later : stands ≡ max so-far (max (suc (each lambda e)) (passed (2 * N - c) (across (each delta e) t) e))
+      unfolding sinceOf trailFrom
+      goes-later = one-passed (simp (← (m .read), lt-ltb (each lambda e) l (m .gone), trailFrom, sinceOf))
+
+      pub long : c + 1 ≡ 1 + 2 * N → the-walk ≡ stopped 15 i b
+      unfolding walkFrom
+      long k = let z : 2 * N - c ≡ 0 = omega arith in goes-on ∙ ap (λ (x : ℕ). rest x (across (each delta e) t) e (c + 1)) z
+
+      pub passes : (c + 1 ≡ 1 + 2 * N → ⊥) → {u raise : ℕ} → u ≡ across (each delta e) t → raise ≡ max so-far (each lambda e + 1) → Next rows lambda delta n N h l i b u e (c + 1) raise
+      passes k v y =
+          let f = s .few in
+          let z : 2 * N - c ≡ 1 + 2 * N - (c + 1) = omega arith in
+          rw (v, y) record { row = across-row n (each delta e) t is-mark; dart = m .dart; few = omega arith; same = goes-on ∙ ap (λ (x : ℕ). rest x (across (each delta e) t) e (c + 1)) z; raised = omega (arith, goes-later, ap (λ (x : ℕ). passed x (across (each delta e) t) e) z) }
+
+-- dart e, which is not on the level, was met by row t with read number c, and s is the level once it is passed
+pub record Met (rows lambda delta : List ℕ) (n N h l i b t e c s : ℕ) : Type 0 where
+  pub source : ℕ
+  pub before : ℕ
+  pub so-far : ℕ
+  pub next : Next rows lambda delta n N h l i b t source before so-far
+  pub reads : c ≡ before + 1
+  pub meets : Meets N rows lambda l n t source e
+  pub raise : s ≡ max so-far (each lambda e + 1)
+
+pub met-first : {rows lambda : List ℕ} {n N l i b e : ℕ} (delta : List ℕ) (h : ℕ) → Meets N rows lambda l n i b e → Met rows lambda delta n N h l i b i e 1 (each lambda e + 1)
+met-first {rows} {lambda} {n} {N} {l} {i} {b} delta h m = record { source = b; before = 0; so-far = 0; next = next-first rows lambda delta n N h l i b (m .row) (m .start); reads = refl; meets = m; raise = omega arith }
+
+-- where all marks are allowed
+module _ {rows lambda delta : List ℕ} {n N h l i b t e c later : ℕ} (p : Allowed n N h rows lambda delta l) (s : Met rows lambda delta n N h l i b t e c later) where
+  pub met-mark : each delta e < stay
+  met-mark = met-byte (s .next) (s .meets) (p .lent .level) (p .allowed e (s .meets .dart)) (p .lent .dimension)
+
+  pub met-no-pass : canPass (each delta e) t ≡ false → walk (entry N rows) n N h (each lambda) (each delta) l i b ≡ stopped 14 t e
+  met-no-pass q = no-pass (s .next) (s .meets) (p .lent .level) (p .allowed e (s .meets .dart)) q
+
+  pub met-long : canPass (each delta e) t ≡ true → c ≡ 1 + 2 * N → walk (entry N rows) n N h (each lambda) (each delta) l i b ≡ stopped 15 i b
+  met-long q k = long (s .next) (s .meets) (p .lent .level) (p .allowed e (s .meets .dart)) q (sym (s .reads) ∙ k)
+
+  pub met-passes : canPass (each delta e) t ≡ true → (c ≡ 1 + 2 * N → ⊥) → {u : ℕ} → u ≡ across (each delta e) t → Next rows lambda delta n N h l i b u e c later
+  met-passes q k v = rw (s .reads) (passes (s .next) (s .meets) (p .lent .level) (p .allowed e (s .meets .dart)) q (λ z. k (s .reads ∙ z)) v (s .raise))

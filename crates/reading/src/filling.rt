@@ -1,18 +1,31 @@
 // The walks of a level into a table, over rows, then darts, left at the first refusal. Assumes nothing.
+use super::Link;
 use super::Total;
+use super::Unfolding;
+use super::later;
 use answers::Dim;
 use answers::Level;
 use answers::Mark;
 use answers::Refusal;
-use questions::Neighbour;
 ghost use mathlib.Core.Path.{_≡_};
-ghost use Prim.Native.Nat.{suc, _*_};
+ghost use Prim.Native.Nat.{suc, _*_, max};
 ghost use lib.ListN.{length};
 ghost use Rattle.maps.specs.Verdict.{ifAccepted};
 ghost use Rattle.maps.specs.Table.{entry, each, listed, absent};
 ghost use Rattle.maps.specs.Walk.{walk as walkOf};
-ghost use Rattle.reading.specs.Answers.{checkOf, totalOf};
+ghost use Rattle.maps.specs.Trail.{since as sinceOf};
+ghost use Rattle.reading.specs.Answers.{checkOf, totalOf, latestOf};
 ghost use Rattle.reading.specs.Walks.{Allowed, Meets, stopOf, Tells, Leaves};
+
+// The larger of two numbers.
+fn larger(one: usize, other: usize) -> usize
+    ensures { λ r. ⌜ r ≡ max one other ⌝ }
+{
+    if one <= other {
+        return other;
+    }
+    one
+}
 
 // Where and why the walks of a level stop: 15, 5 or 14, with row and dart.
 pub enum Stop {
@@ -24,12 +37,11 @@ pub enum Stop {
 
 // How a walk that met a dart not on the level goes on.
 enum Rest {
-    Ended(Neighbour),
+    Ended(Link),
     Stopped(Stop),
 }
 
-// The walk of a dart goes on from the dart met by its first read. All marks are allowed, so 8 is not tested again; n and h stand in the contract alone.
-// The dart is kept as an index, so that no read widens it anew.
+// The walk of a dart goes on from the dart met by its first read. All marks are allowed, so 8 is not tested again. A dart is passed, so the one more waits for the end.
 fn onward(
     n: Dim,
     darts: u16,
@@ -43,12 +55,13 @@ fn onward(
     met: u16,
 ) -> Rest
     requires { ⌜ Allowed (n .0) darts (h .0) (now rows) (now lambda) (now delta) (level .0) × Meets darts (now rows) (now lambda) (level .0) (n .0) (involution .0) dart met ⌝ }
-    ensures { λ r. ⌜ Tells darts (level .0) (walkOf (entry darts (now (rows .entry))) (n .0) darts (h .0) (each (now (lambda .entry))) (each (now (delta .entry))) (level .0) (involution .0) dart) r ⌝ }
+    ensures { λ r. ⌜ Tells darts (level .0) (walkOf (entry darts (now (rows .entry))) (n .0) darts (h .0) (each (now (lambda .entry))) (each (now (delta .entry))) (level .0) (involution .0) dart) (sinceOf (entry darts (now (rows .entry))) darts (each (now (lambda .entry))) (each (now (delta .entry))) (level .0) (involution .0) dart) r ⌝ }
 {
     let most = 1 + 2 * darts as u32;
     let mut t = involution;
     let mut from = met as usize;
     let mut count: u32 = 1;
+    let mut largest = lambda[from] as usize;
     loop {
         let mark = Mark(delta[from]);
         if !answers::can_pass(mark, t) {
@@ -64,9 +77,15 @@ fn onward(
         }
         count += 1;
         let to = e as usize;
-        if level.0 <= lambda[to] {
-            return Rest::Ended(Neighbour { dart: e, count });
+        let own = lambda[to];
+        if level.0 <= own {
+            return Rest::Ended(Link {
+                dart: e,
+                count,
+                since: Level((largest + 1) as u8),
+            });
         }
+        largest = larger(largest, own as usize);
         from = to;
     }
 }
@@ -80,13 +99,14 @@ pub fn clear(table: &mut [u16])
     }
 }
 
-// What became of the walks of a level, and their count.
+// What became of the walks of a level, their count, and since which level their links stand.
 pub struct Walks {
     pub stop: Stop,
     pub total: u32,
+    pub since: Level,
 }
 
-// The walks of a level into the table, over rows, then darts, left at the first refusal. Where the first read meets the neighbour there is no call.
+// The walks of a level into the table, over rows, then darts, left at the first refusal. A neighbour that is on the level needs no call.
 pub fn fill(
     n: Dim,
     darts: u16,
@@ -102,6 +122,7 @@ pub fn fill(
 {
     let mut stop = Stop::Nowhere;
     let mut total: u32 = 0;
+    let mut since = Level(0);
     'rows: for i in 0..n.0 + 1 {
         for d in 0..darts {
             let place = i as usize * darts as usize + d as usize;
@@ -121,6 +142,7 @@ pub fn fill(
                         Rest::Ended(end) => {
                             table[place] = end.dart;
                             total += end.count;
+                            since = later(since, end.since);
                         },
                         Rest::Stopped(why) => {
                             stop = why;
@@ -131,17 +153,22 @@ pub fn fill(
             }
         }
     }
-    Walks { stop, total }
+    Walks { stop, total, since }
 }
 
 // The answer of the walks of a level.
 pub fn answer(level: Level, walks: Walks) -> Total
     ensures { λ r. ⌜ checkOf r ≡ stopOf (level .0) (walks .stop) ⌝ }
     ensures { λ r. ⌜ totalOf r ≡ ifAccepted (stopOf (level .0) (walks .stop)) (walks .total) 0 ⌝ }
+    ensures { λ r. ⌜ latestOf r ≡ ifAccepted (stopOf (level .0) (walks .stop)) (walks .since .0) 0 ⌝ }
 {
     let stop = walks.stop;
+    let since = walks.since;
     match stop {
-        Stop::Nowhere => Total::Counted(walks.total),
+        Stop::Nowhere => Total::Counted(Unfolding {
+            count: walks.total,
+            since,
+        }),
         Stop::Long(i, d) => Total::Refused(Refusal::TooLong(level, i, d)),
         Stop::Strays(i, d) => Total::Refused(Refusal::Strays(level, i, d)),
         Stop::NoPass(i, d) => Total::Refused(Refusal::NoPass(level, i, d)),

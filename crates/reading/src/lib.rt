@@ -7,25 +7,55 @@ use answers::Level;
 use answers::Mark;
 use answers::Question;
 use answers::Refusal;
-use questions::Neighbour;
-use questions::Reading;
+use filling::answer;
+use filling::clear;
+use filling::fill;
 ghost use mathlib.Core.Path.{_≡_};
-ghost use Prim.Native.Nat.{_≤_, _<_};
-ghost use Rattle.maps.specs.Read.{readLent, readingOf};
+ghost use Prim.Native.Nat.{_≤_, _<_, max};
+ghost use Rattle.maps.specs.Read.{ifFound, readLent, readSince, readingOf};
 ghost use Rattle.maps.specs.Table.{entry, each};
 ghost use Rattle.maps.specs.Walk.{walk as walkOf};
-ghost use Rattle.maps.specs.Unfold.{unfoldLent, unfoldTotal, unfoldLeaves};
-ghost use Rattle.questions.specs.Answers.{valueOf};
+ghost use Rattle.maps.specs.Trail.{since as sinceOf};
+ghost use Rattle.maps.specs.Unfold.{unfoldLent, unfoldTotal, unfoldSince, unfoldLeaves};
 ghost use Rattle.questions.specs.Lent.{Lent};
-ghost use Rattle.reading.specs.Answers.{checkOf, totalOf};
+ghost use Rattle.reading.specs.Answers.{valueOf, standsSince, checkOf, totalOf, latestOf};
 
-// The count of all walks of a level, or a refusal.
-pub enum Total {
-    Counted(u32),
+// A neighbour, the number of base entries read on the way to it, and since which level the link stands.
+pub struct Link {
+    pub dart: u16,
+    pub count: u32,
+    pub since: Level,
+}
+
+// A link, or a refusal.
+pub enum Reading {
+    Found(Link),
     Refused(Refusal),
 }
 
-// The direct walk of a dart. Each entry read is tested for 5, the dart met for 8. It is on the level, or refused 14, or 15 where no read is left, or passed.
+// The count of all walks of a level, and since which level all its links stand.
+pub struct Unfolding {
+    pub count: u32,
+    pub since: Level,
+}
+
+// What all walks of a level give, or a refusal.
+pub enum Total {
+    Counted(Unfolding),
+    Refused(Refusal),
+}
+
+// The later of two levels.
+pub(crate) fn later(one: Level, other: Level) -> Level
+    ensures { λ r. ⌜ r .0 ≡ max (one .0) (other .0) ⌝ }
+{
+    if one.0 <= other.0 {
+        return other;
+    }
+    one
+}
+
+// The direct walk of a dart: at each read 5 and 8; then the dart met is on the level, or 14, or 15, or it is passed.
 fn walk(
     n: Dim,
     darts: u16,
@@ -37,6 +67,7 @@ fn walk(
 ) -> Reading
     requires { ⌜ Lent (n .0) darts (h .0) (now rows) (now lambda) (now delta) (asked .level .0) × (asked .involution .0 ≤ n .0) × (asked .dart < darts) ⌝ }
     ensures { λ r. ⌜ valueOf r ≡ readingOf (asked .level .0) (walkOf (entry darts (now (rows .entry))) (n .0) darts (h .0) (each (now (lambda .entry))) (each (now (delta .entry))) (asked .level .0) (asked .involution .0) (asked .dart)) ⌝ }
+    ensures { λ r. ⌜ standsSince r ≡ ifFound (readingOf (asked .level .0) (walkOf (entry darts (now (rows .entry))) (n .0) darts (h .0) (each (now (lambda .entry))) (each (now (delta .entry))) (asked .level .0) (asked .involution .0) (asked .dart))) (sinceOf (entry darts (now (rows .entry))) darts (each (now (lambda .entry))) (each (now (delta .entry))) (asked .level .0) (asked .involution .0) (asked .dart)) ⌝ }
 {
     let most = 1 + 2 * darts as u32;
     let level = asked.level;
@@ -44,6 +75,7 @@ fn walk(
     let mut t = involution;
     let mut from = asked.dart;
     let mut count: u32 = 0;
+    let mut since = Level(0);
     loop {
         let e = answers::at(darts, rows, t, from);
         if darts <= e {
@@ -56,7 +88,11 @@ fn walk(
             if answers::marks_refused(n, h, own, mark) {
                 return Reading::Refused(Refusal::Marks(level, t, e));
             }
-            return Reading::Found(Neighbour { dart: e, count });
+            return Reading::Found(Link {
+                dart: e,
+                count,
+                since,
+            });
         }
         if !answers::is_mark(n, mark) {
             return Reading::Refused(Refusal::Marks(level, t, e));
@@ -67,12 +103,13 @@ fn walk(
         if count == most {
             return Reading::Refused(Refusal::TooLong(level, involution, asked.dart));
         }
+        since = later(since, Level(own.0 + 1));
         t = answers::across(mark, t);
         from = e;
     }
 }
 
-// The neighbour of a dart at a level, on any tables.
+// The neighbour of a dart at a level, on any tables, and since which level it is that.
 pub fn read(
     n: Dim,
     darts: u16,
@@ -85,6 +122,7 @@ pub fn read(
     dart: u16,
 ) -> Reading
     ensures { λ r. ⌜ valueOf r ≡ readLent (n .0) darts (h .0) (now (rows .entry)) (now (lambda .entry)) (now (delta .entry)) (level .0) (involution .0) dart ⌝ }
+    ensures { λ r. ⌜ standsSince r ≡ readSince (n .0) darts (h .0) (now (rows .entry)) (now (lambda .entry)) (now (delta .entry)) (level .0) (involution .0) dart ⌝ }
 {
     let asked = Question {
         level,
@@ -97,7 +135,7 @@ pub fn read(
     }
 }
 
-// A whole level into the lent table by direct walks, with the total count; after 5, 14 and 15 the table is 65,535 throughout.
+// A whole level into the lent table by direct walks, with the total count and since which level all links stand; after 5, 14 and 15 the table is 65,535 throughout.
 pub fn unfold(
     n: Dim,
     darts: u16,
@@ -110,6 +148,7 @@ pub fn unfold(
 ) -> Total
     ensures { λ r. ⌜ checkOf r ≡ unfoldLent (n .0) darts (h .0) (now (rows .entry)) (now (lambda .entry)) (now (delta .entry)) (level .0) (now (table .entry)) ⌝ }
     ensures { λ r. ⌜ totalOf r ≡ unfoldTotal (n .0) darts (h .0) (now (rows .entry)) (now (lambda .entry)) (now (delta .entry)) (level .0) (now (table .entry)) ⌝ }
+    ensures { λ r. ⌜ latestOf r ≡ unfoldSince (n .0) darts (h .0) (now (rows .entry)) (now (lambda .entry)) (now (delta .entry)) (level .0) (now (table .entry)) ⌝ }
     ensures { λ _. ⌜ now (table .exit) ≡ unfoldLeaves (n .0) darts (h .0) (now (rows .entry)) (now (lambda .entry)) (now (delta .entry)) (level .0) (now (table .entry)) ⌝ }
 {
     let lent = answers::pyramid_fits(n, darts, rows.len(), lambda.len(), delta.len());
@@ -125,11 +164,10 @@ pub fn unfold(
     if let Check::Refused(r) = answers::marks_refusal(n, darts, h, lambda, delta, level) {
         return Total::Refused(r);
     }
-    let walks = filling::fill(n, darts, h, rows, lambda, delta, level, table);
-    match filling::answer(level, walks) {
-        Total::Counted(total) => Total::Counted(total),
+    match answer(level, fill(n, darts, h, rows, lambda, delta, level, table)) {
+        Total::Counted(all) => Total::Counted(all),
         Total::Refused(r) => {
-            filling::clear(table);
+            clear(table);
             Total::Refused(r)
         },
     }

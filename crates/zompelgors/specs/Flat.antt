@@ -7,6 +7,8 @@ use Rattle.maps.specs.Read.{Reading, found, none}
 use Rattle.records.specs.Answers.{Outcome}
 use Rattle.zompelgors.specs.declared.ZgRefusal.{ZgRefusal}
 use Rattle.zompelgors.specs.declared.ZgReading.{ZgReading}
+use Rattle.zompelgors.specs.declared.ZgLink.{ZgLink}
+use Rattle.zompelgors.specs.declared.ZgUnfolding.{ZgUnfolding}
 use Rattle.zompelgors.specs.declared.ZgCount.{ZgCount}
 use Rattle.zompelgors.specs.declared.ZgHeight.{ZgHeight}
 use Rattle.zompelgors.specs.declared.ZgPart.{ZgPart}
@@ -25,6 +27,15 @@ saidBy r = refused (r .number) (r .level) (r .involution) (r .dart)
 abbrev pub readingFor : Reading → ZgReading
 readingFor (found neighbour count) = record { refusal = refusalFor accepted; count = count; neighbour = neighbour }
 readingFor (none k l i d) = record { refusal = refusalFor (refused k l i d); count = 0; neighbour = 0 }
+
+-- a neighbour, its count and since which level the link stands, all 0 in a refusal
+abbrev pub linkFor : Reading → ℕ → ZgLink
+linkFor (found neighbour count) since = record { refusal = refusalFor accepted; count = count; neighbour = neighbour; since = since }
+linkFor (none k l i d) since = record { refusal = refusalFor (refused k l i d); count = 0; neighbour = 0; since = 0 }
+
+-- a verdict with a count and since which level all links stand, both 0 in a refusal
+abbrev pub unfoldingFor : Verdict → ℕ → ℕ → ZgUnfolding
+unfoldingFor v count since = record { refusal = refusalFor v; count = ifAccepted v count 0; since = ifAccepted v since 0 }
 
 -- a verdict with a count that is 0 in a refusal
 abbrev pub countFor : Verdict → ℕ → ZgCount

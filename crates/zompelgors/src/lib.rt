@@ -12,8 +12,8 @@ ghost use Rattle.maps.specs.CheckBase.{checkBase};
 ghost use Rattle.maps.specs.CheckPyramid.{checkLent, checkLeaves};
 ghost use Rattle.maps.specs.AddLevel.{addLent, addHeight, addLambda, addDelta, addLeaves};
 ghost use Rattle.maps.specs.MarksBack.{marksLent, marksLeaves};
-ghost use Rattle.maps.specs.Read.{readLent, readLentByLevels};
-ghost use Rattle.maps.specs.Unfold.{unfoldLent, unfoldTotal, unfoldLeaves};
+ghost use Rattle.maps.specs.Read.{readLent, readSince, readLentByLevels};
+ghost use Rattle.maps.specs.Unfold.{unfoldLent, unfoldTotal, unfoldSince, unfoldLeaves};
 ghost use Rattle.maps.specs.Row.{rowLent};
 ghost use Rattle.maps.specs.Survivors.{survivorsLent, survivorCount, survivorWords};
 ghost use Rattle.maps.specs.MarkCells.{markLent, MarkLeaves};
@@ -21,10 +21,10 @@ ghost use Rattle.maps.specs.Record.{takeRows, takeLambda, takeDelta};
 ghost use Rattle.answers.specs.Numbers.{refusalOf, verdictOf};
 ghost use Rattle.checking.specs.Answers.{addedOf, heightOf};
 ghost use Rattle.questions.specs.Answers.{valueOf};
-ghost use Rattle.reading.specs.Answers.{checkOf, totalOf};
+ghost use Rattle.reading.specs.Answers.{valueOf as linkOf, standsSince, checkOf, totalOf, latestOf};
 ghost use Rattle.rows.specs.Answers.{verdictOfSurvivors, countOfSurvivors};
 ghost use Rattle.records.specs.Answers.{takenOf, taken};
-ghost use Rattle.zompelgors.specs.Flat.{refusalFor, saidBy, readingFor, countFor, heightFor, partFor, recordFor, versionFor};
+ghost use Rattle.zompelgors.specs.Flat.{refusalFor, saidBy, readingFor, linkFor, countFor, unfoldingFor, heightFor, partFor, recordFor, versionFor};
 
 // The document's number and values; all 0 where accepted.
 #[repr(C)]
@@ -43,7 +43,24 @@ pub struct ZgReading {
     pub neighbour: u16,
 }
 
-// The total count of an unfolding, or the survivor count.
+// A neighbour with the count of base entries read, and since which level the link stands.
+#[repr(C)]
+pub struct ZgLink {
+    pub refusal: ZgRefusal,
+    pub count: u32,
+    pub neighbour: u16,
+    pub since: u8,
+}
+
+// The total count of an unfolding, and since which level all its links stand.
+#[repr(C)]
+pub struct ZgUnfolding {
+    pub refusal: ZgRefusal,
+    pub count: u32,
+    pub since: u8,
+}
+
+// The survivor count.
 #[repr(C)]
 pub struct ZgCount {
     pub refusal: ZgRefusal,
@@ -110,7 +127,7 @@ fn checked(check: Check) -> ZgRefusal
     }
 }
 
-// The answer of a reading.
+// The answer of a reading by levels.
 fn read_as(answer: questions::Reading) -> ZgReading
     ensures { λ r. ⌜ r ≡ readingFor (valueOf answer) ⌝ }
 {
@@ -134,29 +151,53 @@ fn read_as(answer: questions::Reading) -> ZgReading
     }
 }
 
-// An answer that is a count.
-fn counts(count: u32) -> ZgCount
-    ensures { λ r. ⌜ r ≡ countFor accepted count ⌝ }
+// The answer of a direct reading.
+fn linked(answer: reading::Reading) -> ZgLink
+    ensures { λ r. ⌜ r ≡ linkFor (linkOf answer) (standsSince answer) ⌝ }
 {
-    let refusal = accepts();
-    ZgCount { refusal, count }
-}
-
-// A refusal with a count of 0.
-fn uncounted(why: Refusal) -> ZgCount
-    ensures { λ r. ⌜ r ≡ countFor (refusalOf why) 0 ⌝ }
-{
-    let refusal = refused(why);
-    ZgCount { refusal, count: 0 }
+    match answer {
+        reading::Reading::Found(link) => {
+            let refusal = accepts();
+            ZgLink {
+                refusal,
+                count: link.count,
+                neighbour: link.dart,
+                since: link.since.0,
+            }
+        },
+        reading::Reading::Refused(why) => {
+            let refusal = refused(why);
+            ZgLink {
+                refusal,
+                count: 0,
+                neighbour: 0,
+                since: 0,
+            }
+        },
+    }
 }
 
 // The answer of an unfolding.
-fn totalled(total: reading::Total) -> ZgCount
-    ensures { λ r. ⌜ r ≡ countFor (checkOf total) (totalOf total) ⌝ }
+fn totalled(total: reading::Total) -> ZgUnfolding
+    ensures { λ r. ⌜ r ≡ unfoldingFor (checkOf total) (totalOf total) (latestOf total) ⌝ }
 {
     match total {
-        reading::Total::Counted(count) => counts(count),
-        reading::Total::Refused(why) => uncounted(why),
+        reading::Total::Counted(all) => {
+            let refusal = accepts();
+            ZgUnfolding {
+                refusal,
+                count: all.count,
+                since: all.since.0,
+            }
+        },
+        reading::Total::Refused(why) => {
+            let refusal = refused(why);
+            ZgUnfolding {
+                refusal,
+                count: 0,
+                since: 0,
+            }
+        },
     }
 }
 
@@ -165,8 +206,14 @@ fn counted(answer: rows::Survivors) -> ZgCount
     ensures { λ r. ⌜ r ≡ countFor (verdictOfSurvivors answer) (countOfSurvivors answer) ⌝ }
 {
     match answer {
-        rows::Survivors::Counted(count) => counts(count),
-        rows::Survivors::Refused(why) => uncounted(why),
+        rows::Survivors::Counted(count) => {
+            let refusal = accepts();
+            ZgCount { refusal, count }
+        },
+        rows::Survivors::Refused(why) => {
+            let refusal = refused(why);
+            ZgCount { refusal, count: 0 }
+        },
     }
 }
 
@@ -254,12 +301,12 @@ fn taken_as(answer: records::Taken) -> ZgRecord
     }
 }
 
-// The version of this interface: 1.0.0.
+// The version of this interface: 2.0.0.
 #[no_mangle]
 pub extern "C" fn zg_version() -> u32
-    ensures { λ r. ⌜ r ≡ versionFor 1 0 0 ⌝ }
+    ensures { λ r. ⌜ r ≡ versionFor 2 0 0 ⌝ }
 {
-    65536
+    131072
 }
 
 // Checks a base.
@@ -327,7 +374,7 @@ pub extern "C" fn zg_marks_of(
     checked(rows::marks_of(Dim(n), darts, Level(h), lambda, delta, Level(level), marks))
 }
 
-// Reads one neighbour on a level by the direct walk.
+// Reads one neighbour on a level by the direct walk, and since which level the link stands.
 #[no_mangle]
 pub extern "C" fn zg_read(
     n: u8,
@@ -339,10 +386,10 @@ pub extern "C" fn zg_read(
     level: u8,
     involution: u8,
     dart: u16,
-) -> ZgReading
-    ensures { λ r. ⌜ r ≡ readingFor (readLent n darts h (now (rows .entry)) (now (lambda .entry)) (now (delta .entry)) level involution dart) ⌝ }
+) -> ZgLink
+    ensures { λ r. ⌜ r ≡ linkFor (readLent n darts h (now (rows .entry)) (now (lambda .entry)) (now (delta .entry)) level involution dart) (readSince n darts h (now (rows .entry)) (now (lambda .entry)) (now (delta .entry)) level involution dart) ⌝ }
 {
-    read_as(reading::read(
+    linked(reading::read(
         Dim(n),
         darts,
         Level(h),
@@ -394,8 +441,8 @@ pub extern "C" fn zg_unfold(
     delta: &[u8],
     level: u8,
     table: &mut [u16],
-) -> ZgCount
-    ensures { λ r. ⌜ r ≡ countFor (unfoldLent n darts h (now (rows .entry)) (now (lambda .entry)) (now (delta .entry)) level (now (table .entry))) (unfoldTotal n darts h (now (rows .entry)) (now (lambda .entry)) (now (delta .entry)) level (now (table .entry))) ⌝ }
+) -> ZgUnfolding
+    ensures { λ r. ⌜ r ≡ unfoldingFor (unfoldLent n darts h (now (rows .entry)) (now (lambda .entry)) (now (delta .entry)) level (now (table .entry))) (unfoldTotal n darts h (now (rows .entry)) (now (lambda .entry)) (now (delta .entry)) level (now (table .entry))) (unfoldSince n darts h (now (rows .entry)) (now (lambda .entry)) (now (delta .entry)) level (now (table .entry))) ⌝ }
     ensures { λ _. ⌜ now (table .exit) ≡ unfoldLeaves n darts h (now (rows .entry)) (now (lambda .entry)) (now (delta .entry)) level (now (table .entry)) ⌝ }
 {
     totalled(reading::unfold(

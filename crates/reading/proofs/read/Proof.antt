@@ -3,7 +3,7 @@ use mathlib.Core.Path.{_≡_, sym}
 use denote.Ref.{now}
 use borrow.Author.Needs.{needs}
 use Rattle.maps.specs.Verdict.{accepted}
-use Rattle.maps.specs.Read.{question, readLent}
+use Rattle.maps.specs.Read.{question, readLent, readSince}
 use Rattle.answers.proofs.Refusals.{refusal-refuses, told}
 use Rattle.questions.proofs.Questions.{question-walks}
 use Rattle.reading.proofs.read.Statement.{statement}
@@ -13,17 +13,29 @@ use Rattle.reading.proofs.read.Tie as tie
 ok : (c : tie.After-enum-told) → let a = c .before .before .before .before .before .before .args in question (a .n .0) (a .darts) (a .h .0) (now (a .rows)) (now (a .lambda)) (now (a .delta)) (a .level .0) (a .involution .0) (a .dart) ≡ accepted
 ok c = sym (told (c .before .before .question .ensures) (c .enum-told .given .1))
 
+question-requires : tie.Need-question-requires
+question-requires c κs = search needs
+
+enum-known-r : tie.Need-enum-known-r
+enum-known-r c = search needs
+
+enum-told : tie.Need-enum-told
+enum-told c = search needs
+
 walk-requires : tie.Need-walk-requires
 walk-requires c κs = let a = c .before .before .before .before .before .before .args in question-walks (a .n .0) (a .darts) (a .h .0) (now (a .rows)) (now (a .lambda)) (now (a .delta)) (a .level .0) (a .involution .0) (a .dart) (ok c)
 
 returns : tie.Need-returns
-unfolding readLent
-returns c = let r = refusal-refuses (c .before .r .given .0 .0) in simp (← (told (c .before .before .before .question .ensures) (c .before .r .given .1)), r .is)
+unfolding readLent readSince
+returns c =
+    let r = refusal-refuses (c .before .r .given .0 .0) in
+    let e = sym (told (c .before .before .before .question .ensures) (c .before .r .given .1)) in
+    (simp (e, r .is), simp (e, r .is))
 
 returns-2 : tie.Need-returns-2
-unfolding readLent
-returns-2 c = simp (ok (c .before)) (c .walk .ensures)
+unfolding readLent readSince
+returns-2 c = (simp (ok (c .before)) (c .walk .ensures .0), simp (ok (c .before)) (c .walk .ensures .1))
 
 pub read-spec : {M : Type 1} → statement M
 read-spec =
-    tie.close (tie.spec (λ c κs. search needs) (λ c. search needs) (λ c. search needs) walk-requires returns returns-2)
+    tie.close (tie.spec question-requires enum-known-r enum-told walk-requires returns returns-2)

@@ -13,7 +13,7 @@ use Rattle.answers.specs.Lent.{askedOf}
 use Rattle.answers.proofs.Marked.{marks-decide, allowed}
 use Rattle.answers.proofs.Refusals.{told}
 use Rattle.questions.specs.Lent.{Lent}
-use Rattle.reading.proofs.Unfolding.{fits, unfold-lent, unfold-first, unfold-marks, unfold-counted, unfold-refused}
+use Rattle.reading.proofs.Unfolds.{fits, unfold-lent, unfold-first, unfold-marks, unfold-counted, unfold-refused}
 use Rattle.reading.proofs.unfold.Statement.{statement}
 use Rattle.reading.proofs.unfold.Tie as tie
 
@@ -52,15 +52,42 @@ marks-are c =
 fine : (c : tie.After-enum-told2) → let a = start (asked c) .args in accepted ≡ scan (a .darts) (atMarks8 (a .n .0) (a .darts) (a .h .0) (now (a .lambda)) (now (a .delta)) (a .level .0) [])
 fine c = told (marks-are (c .before .before)) (c .enum-told2 .given .1)
 
+pyramid-fits-requires : tie.Need-pyramid-fits-requires
+pyramid-fits-requires c κs = search needs
+
+rows-fit-requires : tie.Need-rows-fit-requires
+rows-fit-requires c κs = search needs
+
+both-requires : tie.Need-both-requires
+both-requires c κs = search needs
+
+asked-requires : tie.Need-asked-requires
+asked-requires c κs = search needs
+
+enum-known-r : tie.Need-enum-known-r
+enum-known-r c = search needs
+
 returns : tie.Need-returns
 returns c =
     let a = start (c .before .before .before) .args in
     unfold-first (a .n .0) (a .darts) (a .h .0) (now (a .rows)) (now (a .lambda)) (now (a .delta)) (a .level .0) (now (a .table)) (c .before .r .given .0 .0) (told (asked-is (c .before .before .before)) (c .before .r .given .1))
 
+enum-told : tie.Need-enum-told
+enum-told c = search needs
+
+marks-refusal-requires : tie.Need-marks-refusal-requires
+marks-refusal-requires c κs = search needs
+
+enum-known-r-2 : tie.Need-enum-known-r-2
+enum-known-r-2 c = search needs
+
 returns-2 : tie.Need-returns-2
 returns-2 c =
     let a = start (c .before .before .before .before .before .before) .args in
     unfold-marks (a .n .0) (a .darts) (a .h .0) (now (a .rows)) (now (a .lambda)) (now (a .delta)) (a .level .0) (now (a .table)) (ok (c .before .before .before .before)) (c .before .r2 .given .0 .0) (told (marks-are (c .before .before .before)) (c .before .r2 .given .1))
+
+enum-told-2 : tie.Need-enum-told-2
+enum-told-2 c = search needs
 
 fill-requires : tie.Need-fill-requires
 fill-requires c κs =
@@ -69,11 +96,29 @@ fill-requires c κs =
     let p = lent (b .before .before .before) in
     (record { lent = p .0; allowed = allowed (a .n .0) (a .darts) (a .h .0) (now (a .lambda)) (now (a .delta)) (a .level .0) (sym (fine b)) }, p .1)
 
+answer-requires : tie.Need-answer-requires
+answer-requires c κs = search needs
+
+enum-known-all : tie.Need-enum-known-all
+enum-known-all c = search needs
+
+enum-known-r-3 : tie.Need-enum-known-r-3
+enum-known-r-3 c = search needs
+
+clear-requires : tie.Need-clear-requires
+clear-requires c κs = search needs
+
+same-length : tie.Need-same-length
+same-length c = search needs
+
 returns-3 : tie.Need-returns-3
 returns-3 c =
     let b = walked (c .before .before .before) in
     let a = start (asked b) .args in
-    unfold-counted (a .n .0) (a .darts) (a .h .0) (now (a .rows)) (now (a .lambda)) (now (a .delta)) (a .level .0) (now (a .table)) (ok (b .before .before .before)) (fine b) (c .before .before .before .before .before .before .fill .ensures) (c .before .total .given .1) (c .before .before .before .answer .ensures)
+    unfold-counted (a .n .0) (a .darts) (a .h .0) (now (a .rows)) (now (a .lambda)) (now (a .delta)) (a .level .0) (now (a .table)) (ok (b .before .before .before)) (fine b) (c .before .before .before .before .before .before .fill .ensures) (c .before .all .given .1) (c .before .before .before .answer .ensures)
+
+same-length-2 : tie.Need-same-length-2
+same-length-2 c = search needs
 
 returns-4 : tie.Need-returns-4
 returns-4 c =
@@ -81,29 +126,29 @@ returns-4 c =
     let b = walked d in
     let a = start (asked b) .args in
     let g = unfold-refused (a .n .0) (a .darts) (a .h .0) (now (a .rows)) (now (a .lambda)) (now (a .delta)) (a .level .0) (now (a .table)) (ok (b .before .before .before)) (fine b) (d .before .before .before .fill .ensures) (c .before .before .before .before .before .r3 .given .1) (d .answer .ensures) (lent (b .before .before .before) .1) in
-    (g .0, (g .1 .0, c .before .before .clear .ensures ∙ g .1 .1))
+    (g .0, (g .1 .0, (g .1 .1 .0, c .before .before .clear .ensures ∙ g .1 .1 .1)))
 
 pub unfold-spec : {M : Type 1} → statement M
 unfold-spec =
     tie.close
     (tie.spec
-    (λ c κs. search needs)
-    (λ c κs. search needs)
-    (λ c κs. search needs)
-    (λ c κs. search needs)
-    (λ c. search needs)
+    pyramid-fits-requires
+    rows-fit-requires
+    both-requires
+    asked-requires
+    enum-known-r
     returns
-    (λ c. search needs)
-    (λ c κs. search needs)
-    (λ c. search needs)
+    enum-told
+    marks-refusal-requires
+    enum-known-r-2
     returns-2
-    (λ c. search needs)
+    enum-told-2
     fill-requires
-    (λ c κs. search needs)
-    (λ c. search needs)
-    (λ c. search needs)
-    (λ c κs. search needs)
-    (λ c. search needs)
+    answer-requires
+    enum-known-all
+    enum-known-r-3
+    clear-requires
+    same-length
     returns-3
-    (λ c. search needs)
+    same-length-2
     returns-4)

@@ -1,19 +1,24 @@
--- `reading::walk` meets its contract. The invariant: the whole walk is the rest of it, from row t of a dart. The measure: the reads that are left. Assumes nothing.
-use mathlib.Core.Path.{sym, ap}
+-- `reading::walk` meets its contract. The invariant: the whole walk is the rest of it, from row t of a dart, and the darts passed give the level so far. The measure: the reads that are left. Assumes nothing.
+use mathlib.Core.Path.{_≡_, sym, ap, _∙_}
+use mathlib.Core.Bool.{true, false, not}
 use Prim.Native.Nat.{_+_, _-_, _*_}
 use native.Mathlib.Omega.{arith}
 use denote.Ref.{now}
 use borrow.Author.Needs.{needs}
-use Rattle.maps.specs.Read.{readingOf}
-use Rattle.reading.proofs.Walking.{Next, Met, next-first, next-fits, strays, bad-marks, arrives, no-mark, meets-mark, met-byte, no-pass, long, passes}
+use borrow.Author.Tests.{not-true, not-false}
+use Rattle.maps.specs.Mark.{canPass}
+use Rattle.maps.specs.Table.{each}
+use Rattle.maps.specs.Folded.{refusedMarks}
+use Rattle.reading.specs.Walks.{Meets}
+use Rattle.reading.proofs.Walking.{stop-says, end-says, gone-marks, entry-fits, Next, next-first, strays, bad-marks, arrives, arrived, met-byte, no-pass, long, passes}
 use Rattle.reading.proofs.walk.Statement.{statement}
 use Rattle.reading.proofs.walk.Tie as tie
 
 abbrev Inv-loop : tie.InvT-loop
-Inv-loop n darts h rows lambda delta asked most level involution t₀ from₀ count₀ t from count = Next rows lambda delta (n .0) darts (h .0) (asked .level .0) (asked .involution .0) (asked .dart) (t .0) from count
+Inv-loop n darts h rows lambda delta asked most level involution t₀ from₀ count₀ since₀ t from count since = Next rows lambda delta (n .0) darts (h .0) (asked .level .0) (asked .involution .0) (asked .dart) (t .0) from count (since .0)
 
 abbrev μ-loop : tie.MeasureT-loop
-μ-loop n darts h rows lambda delta asked most level involution t₀ from₀ count₀ t from count = 1 + 2 * darts - count
+μ-loop n darts h rows lambda delta asked most level involution t₀ from₀ count₀ since₀ t from count since = 1 + 2 * darts - count
 
 -- where the function starts, from where the entry read is a dart
 abbrev start : tie.Else1 Inv-loop μ-loop → tie.Start Inv-loop μ-loop
@@ -23,57 +28,126 @@ start c = c .before .before .before .before .before .before .before .before
 abbrev read : tie.After-struct-known2 Inv-loop μ-loop → tie.Else1 Inv-loop μ-loop
 read c = c .before .before .before .before
 
--- a dart was met that is not on the level and has a mark
-met : (c : tie.Else4 Inv-loop μ-loop) → let r = read (c .before .before .before) in let a = start r .args in let l = r .before .before .loop in
-    Met (now (a .rows)) (now (a .lambda)) (now (a .delta)) (a .n .0) (a .darts) (a .h .0) (a .asked .level .0) (a .asked .involution .0) (a .asked .dart) (l .t .0) (r .before .at .result) (l .count + 1)
+-- where it is passed, from the end of a turn
+abbrev goes : tie.After-across Inv-loop μ-loop → tie.Else6 Inv-loop μ-loop
+goes c = c .before .before .before
+
+-- where its marks are read
+abbrev marked : tie.Else6 Inv-loop μ-loop → tie.After-struct-known2 Inv-loop μ-loop
+marked c = c .before .before .before .before .before .before
+
+-- the dart met is not on the level
+met : (c : tie.Else2 Inv-loop μ-loop) → let r = read (c .before) in let a = start r .args in let l = r .before .before .loop in
+    Meets (a .darts) (now (a .rows)) (now (a .lambda)) (a .asked .level .0) (a .n .0) (l .t .0) (l .from) (r .before .at .result)
 met c =
-    let r = read (c .before .before .before) in
-    meets-mark (r .before .before .loop .inv) (r .before .at .ensures) (r .if1 .left) (start r .pre .0 .level) (c .before .before .if2 .left) (c .before .is-mark .ensures) (c .if4 .left)
+    let r = read (c .before) in
+    let s = r .before .before .loop .inv in
+    record { row = s .row; start = s .dart; read = r .before .at .ensures; dart = r .if1 .left; gone = c .if2 .left }
+
+-- its mark decides
+decided : (c : tie.After-is-mark Inv-loop μ-loop) → let r = read (c .before .before) in let a = start r .args in let e = r .before .at .result in
+    refusedMarks (a .n .0) (a .h .0) (each (now (a .lambda)) e) (each (now (a .delta)) e) ≡ not (c .is-mark .result)
+decided c =
+    let r = read (c .before .before) in
+    let a = start r .args in
+    let e = r .before .at .result in
+    gone-marks (a .n .0) (a .h .0) (each (now (a .lambda)) e) (each (now (a .delta)) e) (a .asked .level .0) (start r .pre .0 .level) (c .before .if2 .left) ∙ ap not (sym (c .is-mark .ensures))
+
+-- the walk at a dart that it met, not on the level and with a mark
+allowed : (c : tie.Else4 Inv-loop μ-loop) → let r = read (c .before .before .before) in let a = start r .args in let e = r .before .at .result in
+    refusedMarks (a .n .0) (a .h .0) (each (now (a .lambda)) e) (each (now (a .delta)) e) ≡ false
+allowed c = decided (c .before) ∙ c .if4 .left
+
+passed : (c : tie.Else5 Inv-loop μ-loop) → let r = read (c .before .before .before .before .before) in
+    canPass (each (now (start r .args .delta)) (r .before .at .result)) (r .before .before .loop .t .0) ≡ true
+passed c = sym (c .before .can-pass .ensures) ∙ not-false (c .before .can-pass .result) (c .if5 .left)
+
+mul-most : tie.Need-mul-most Inv-loop μ-loop
+mul-most c = search needs
+
+add-most : tie.Need-add-most Inv-loop μ-loop
+add-most c = search needs
 
 loop-holds : tie.Need-loop-holds Inv-loop μ-loop
-loop-holds c = let p = c .before .before .before .before .before .pre in next-first (p .1) (p .2)
+loop-holds c =
+    let a = c .before .before .before .before .before .args in
+    let p = c .before .before .before .before .before .pre in
+    next-first (now (a .rows)) (now (a .lambda)) (now (a .delta)) (a .n .0) (a .darts) (a .h .0) (a .asked .level .0) (a .asked .involution .0) (a .asked .dart) (p .1) (p .2)
 
 at-requires : tie.Need-at-requires Inv-loop μ-loop
-at-requires c κs = next-fits (c .before .before .before .before .before .before .pre .0) (c .loop .inv)
+at-requires c κs = entry-fits (c .before .before .before .before .before .before .pre .0) (c .loop .inv .row) (c .loop .inv .dart)
 
 returns : tie.Need-returns Inv-loop μ-loop
-returns c = ap (readingOf _) (sym (strays (c .before .before .loop .inv) (c .before .at .ensures) (c .if1 .taken)))
+returns c = stop-says _ (strays (c .before .before .loop .inv) (c .before .at .ensures) (c .if1 .taken))
 
 add-count : tie.Need-add-count Inv-loop μ-loop
 add-count c = omega (arith, start c .pre .0 .darts, c .before .before .loop .inv .few)
 
+cast-t22 : tie.Need-cast-t22 Inv-loop μ-loop
+cast-t22 c = search needs
+
+shared-slice-read-t24 : tie.Need-shared-slice-read-t24 Inv-loop μ-loop
+shared-slice-read-t24 c = search needs
+
+cast-t22-2 : tie.Need-cast-t22-2 Inv-loop μ-loop
+cast-t22-2 c = search needs
+
+shared-slice-read-t24-2 : tie.Need-shared-slice-read-t24-2 Inv-loop μ-loop
+shared-slice-read-t24-2 c = search needs
+
+marks-refused-requires : tie.Need-marks-refused-requires Inv-loop μ-loop
+marks-refused-requires c κs = search needs
+
 returns-2 : tie.Need-returns-2 Inv-loop μ-loop
 returns-2 c =
     let r = read (c .before .before .before) in
-    ap (readingOf _) (sym (bad-marks (r .before .before .loop .inv) (r .before .at .ensures) (r .if1 .left) (c .before .marks-refused .ensures) (c .if3 .taken)))
+    stop-says _ (bad-marks (r .before .before .loop .inv) (r .before .at .ensures) (r .if1 .left) (sym (c .before .marks-refused .ensures) ∙ c .if3 .taken))
 
 returns-3 : tie.Need-returns-3 Inv-loop μ-loop
 returns-3 c =
     let r = read (c .before .before .before) in
-    ap (readingOf _) (sym (arrives (r .before .before .loop .inv) (r .before .at .ensures) (r .if1 .left) (c .before .marks-refused .ensures) (c .if3 .left) (c .before .before .if2 .taken)))
+    end-says _ (arrives (r .before .before .loop .inv) (r .before .at .ensures) (r .if1 .left) (sym (c .before .marks-refused .ensures) ∙ c .if3 .left) (c .before .before .if2 .taken)) (arrived (r .before .before .loop .inv) (r .before .at .ensures) (c .before .before .if2 .taken))
+
+is-mark-requires : tie.Need-is-mark-requires Inv-loop μ-loop
+is-mark-requires c κs = search needs
 
 returns-4 : tie.Need-returns-4 Inv-loop μ-loop
 returns-4 c =
     let r = read (c .before .before .before) in
-    ap (readingOf _) (sym (no-mark (r .before .before .loop .inv) (r .before .at .ensures) (r .if1 .left) (start r .pre .0 .level) (c .before .before .if2 .left) (c .before .is-mark .ensures) (c .if4 .taken)))
+    stop-says _ (bad-marks (r .before .before .loop .inv) (r .before .at .ensures) (r .if1 .left) (decided (c .before) ∙ c .if4 .taken))
 
 can-pass-requires : tie.Need-can-pass-requires Inv-loop μ-loop
-can-pass-requires c κs = met-byte (met c) (start (read (c .before .before .before)) .pre .0 .dimension)
+can-pass-requires c κs =
+    let r = read (c .before .before .before) in
+    let p = start r .pre .0 in
+    met-byte (r .before .before .loop .inv) (met (c .before .before)) (p .level) (allowed c) (p .dimension)
 
 returns-5 : tie.Need-returns-5 Inv-loop μ-loop
-returns-5 c = ap (readingOf _) (sym (no-pass (met (c .before .before)) (c .before .can-pass .ensures) (c .if5 .taken)))
+returns-5 c =
+    let r = read (c .before .before .before .before .before) in
+    stop-says _ (no-pass (r .before .before .loop .inv) (met (c .before .before .before .before)) (start r .pre .0 .level) (allowed (c .before .before)) (sym (c .before .can-pass .ensures) ∙ not-true (c .before .can-pass .result) (c .if5 .taken)))
 
 returns-6 : tie.Need-returns-6 Inv-loop μ-loop
-returns-6 c = ap (readingOf _) (sym (long (met (c .before .before .before)) (c .before .before .can-pass .ensures) (c .before .if5 .left) (c .if6 .taken)))
+returns-6 c =
+    let r = read (c .before .before .before .before .before .before) in
+    stop-says _ (long (r .before .before .loop .inv) (met (c .before .before .before .before .before)) (start r .pre .0 .level) (allowed (c .before .before .before)) (passed (c .before)) (c .if6 .taken))
+
+add-t24 : tie.Need-add-t24 Inv-loop μ-loop
+add-t24 c = omega (arith, c .before .before .before .before .before .before .if2 .left)
+
+later-requires : tie.Need-later-requires Inv-loop μ-loop
+later-requires c κs = search needs
 
 across-requires : tie.Need-across-requires Inv-loop μ-loop
-across-requires c κs = can-pass-requires (c .before .before .before) κs
+across-requires c κs = can-pass-requires (c .before .before .before .before .before) κs
 
 loop-less : tie.Need-loop-less Inv-loop μ-loop
-loop-less c = omega (arith, met (c .before .before .before .before) .next .few)
+loop-less c = omega (arith, read (marked (goes c)) .before .before .loop .inv .few)
 
 loop-again : tie.Need-loop-again Inv-loop μ-loop
-loop-again c = passes (met (c .before .before .before .before)) (c .before .before .before .can-pass .ensures) (c .before .before .if5 .left) (c .before .if6 .left) (c .across .ensures)
+loop-again c =
+    let r = read (marked (goes c)) in
+    passes (r .before .before .loop .inv) (met (goes c .before .before .before .before .before)) (start r .pre .0 .level) (allowed (goes c .before .before .before)) (passed (goes c .before)) (goes c .if6 .left) (c .across .ensures) (c .before .later .ensures)
 
 pub walk-spec : {M : Type 1} → statement M
 walk-spec =
@@ -81,24 +155,26 @@ walk-spec =
     (tie.spec
     Inv-loop
     μ-loop
-    (λ c. search needs)
-    (λ c. search needs)
+    mul-most
+    add-most
     loop-holds
     at-requires
     returns
     add-count
-    (λ c. search needs)
-    (λ c. search needs)
-    (λ c. search needs)
-    (λ c. search needs)
-    (λ c κs. search needs)
+    cast-t22
+    shared-slice-read-t24
+    cast-t22-2
+    shared-slice-read-t24-2
+    marks-refused-requires
     returns-2
     returns-3
-    (λ c κs. search needs)
+    is-mark-requires
     returns-4
     can-pass-requires
     returns-5
     returns-6
+    add-t24
+    later-requires
     across-requires
     loop-less
     loop-again)

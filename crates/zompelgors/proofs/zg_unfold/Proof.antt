@@ -1,6 +1,6 @@
 -- `zg_unfold` meets its contract: the job does, and its answer is flattened. Assumes nothing.
-use mathlib.Core.Path.{ap₂, _∙_}
-use Rattle.zompelgors.specs.Flat.{countFor}
+use mathlib.Core.Path.{_∙_}
+use Rattle.zompelgors.specs.Flat.{unfoldingFor}
 use borrow.Author.Needs.{needs}
 use Rattle.zompelgors.proofs.zg_unfold.Statement.{statement}
 use Rattle.zompelgors.proofs.zg_unfold.Tie as tie
@@ -15,7 +15,7 @@ same-length : tie.Need-same-length
 same-length c = search needs
 
 returns : tie.Need-returns
-returns c = let e = c .before .before .before .unfold .ensures in (c .totalled .ensures ∙ ap₂ countFor (e .0) (e .1 .0), e .1 .1)
+returns c = let e = c .before .before .before .unfold .ensures in (c .totalled .ensures ∙ (λ k. unfoldingFor (e .0 k) (e .1 .0 k) (e .1 .1 .0 k)), e .1 .1 .1)
 
 pub zg-unfold-spec : {M : Type 1} → statement M
 zg-unfold-spec = tie.close (tie.spec unfold-requires totalled-requires same-length returns)

@@ -1,30 +1,35 @@
--- `reading::filling::fill` meets its contract. The invariant of both loops: the table is filled so far, and no walk so far was refused. The measures: the rows and the darts that are left. Assumes nothing.
-use mathlib.Core.Path.{_≡_, refl, sym}
+-- `reading::fill` meets its contract. The invariant of both loops: the table is filled so far, and no walk so far was refused. The measures: the rows and the darts that are left. Assumes nothing.
+use mathlib.Core.Path.{_≡_, refl, ap, _∙_}
 use mathlib.Core.Logic.{⊎-elim}
-use Prim.Native.Nat.{_+_, _-_, _*_, _≤_, _<_, zero-le}
+use Prim.Native.Nat.{ℕ, _+_, _-_, _*_, _≤_, _<_, zero-le}
 use native.Mathlib.Omega.{arith}
 use lib.ListN.{length}
 use denote.Ref.{now}
 use Rattle.maps.specs.Table.{entry}
 use borrow.Author.Needs.{needs}
 use Rattle.laws.proofs.Tables.{in-table, table-size}
+use Rattle.answers.specs.declared.Level.{Level}
 use Rattle.reading.specs.declared.filling.Stop.the-variants.{Nowhere}
-use Rattle.reading.proofs.Walking.{Next, next-first, strays, arrives}
+use Rattle.reading.proofs.Walking.{Next, next-first, strays, arrives, arrived}
 use Rattle.reading.proofs.Filled.{Filled, filled-none, filled-row, filled-all, filled-absent, filled-end, filled-missed}
 use Rattle.reading.proofs.filling.fill.Statement.{statement}
 use Rattle.reading.proofs.filling.fill.Tie as tie
 
 abbrev Inv-loop : tie.InvT-loop
-Inv-loop n darts h rows lambda delta level table₀ stop₀ total₀ i d₀ i-end table stop total d = (d ≤ darts) × (i < i-end) × Filled (n .0) darts (h .0) rows lambda delta (level .0) i d total table × (stop ≡ Nowhere)
+Inv-loop n darts h rows lambda delta level table₀ stop₀ total₀ since₀ i d₀ i-end table stop total since d = (d ≤ darts) × (i < i-end) × Filled (n .0) darts (h .0) rows lambda delta (level .0) i d total (since .0) table × (stop ≡ Nowhere)
 
 abbrev μ-loop : tie.MeasureT-loop
-μ-loop n darts h rows lambda delta level table₀ stop₀ total₀ i d₀ i-end table stop total d = darts - d
+μ-loop n darts h rows lambda delta level table₀ stop₀ total₀ since₀ i d₀ i-end table stop total since d = darts - d
 
 abbrev Inv-rows : tie.InvT-rows
-Inv-rows n darts h rows lambda delta level table₀ stop₀ total₀ i₀ i-end table stop total i = (i ≤ i-end) × Filled (n .0) darts (h .0) rows lambda delta (level .0) i 0 total table × (stop ≡ Nowhere)
+Inv-rows n darts h rows lambda delta level table₀ stop₀ total₀ since₀ i₀ i-end table stop total since i = (i ≤ i-end) × Filled (n .0) darts (h .0) rows lambda delta (level .0) i 0 total (since .0) table × (stop ≡ Nowhere)
 
 abbrev μ-rows : tie.MeasureT-rows
-μ-rows n darts h rows lambda delta level table₀ stop₀ total₀ i₀ i-end table stop total i = i-end - i
+μ-rows n darts h rows lambda delta level table₀ stop₀ total₀ since₀ i₀ i-end table stop total since i = i-end - i
+
+-- a level as a number
+abbrev number : Level → ℕ
+number l = l .0
 
 -- where the function starts, from a turn of the inner loop
 abbrev start : tie.In-loop Inv-loop μ-loop Inv-rows μ-rows → tie.Start Inv-loop μ-loop Inv-rows μ-rows
@@ -49,20 +54,37 @@ place c =
 
 -- the walk of the dart by the row begins
 first : (c : tie.In-loop Inv-loop μ-loop Inv-rows μ-rows) → let a = start c .args in let i = c .before .before .before .rows .i in let d = c .before .loop .d in
-    Next (now (a .rows)) (now (a .lambda)) (now (a .delta)) (a .n .0) (a .darts) (a .h .0) (a .level .0) i d i d 0
-first c = next-first (place c .0) (c .loop-test .taken)
+    Next (now (a .rows)) (now (a .lambda)) (now (a .delta)) (a .n .0) (a .darts) (a .h .0) (a .level .0) i d i d 0 0
+first c =
+    let a = start c .args in
+    next-first (now (a .rows)) (now (a .lambda)) (now (a .delta)) (a .n .0) (a .darts) (a .h .0) (a .level .0) (c .before .before .before .rows .i) (c .before .loop .d) (place c .0) (c .loop-test .taken)
+
+add-i-end : tie.Need-add-i-end Inv-loop μ-loop Inv-rows μ-rows
+add-i-end c = search needs
 
 rows-holds : tie.Need-rows-holds Inv-loop μ-loop Inv-rows μ-rows
-rows-holds c = (zero-le, filled-none (c .before .before .before .before .before .pre .1), refl)
+rows-holds c = let a = c .before .before .before .before .before .args in (zero-le, filled-none (a .n .0) (a .darts) (a .h .0) (now (a .rows)) (now (a .lambda)) (now (a .delta)) (a .level .0) (c .before .before .before .before .before .pre .1), refl)
 
 loop-holds : tie.Need-loop-holds Inv-loop μ-loop Inv-rows μ-rows
 loop-holds c = let v = c .before .rows .inv in (zero-le, c .rows-test .taken, v .1, v .2)
 
+cast-place : tie.Need-cast-place Inv-loop μ-loop Inv-rows μ-rows
+cast-place c = search needs
+
 mul-place : tie.Need-mul-place Inv-loop μ-loop Inv-rows μ-rows
 mul-place c = omega (arith, place c)
 
+cast-place-2 : tie.Need-cast-place-2 Inv-loop μ-loop Inv-rows μ-rows
+cast-place-2 c = search needs
+
 add-place : tie.Need-add-place Inv-loop μ-loop Inv-rows μ-rows
 add-place c = omega (arith, place c)
+
+cast-if1 : tie.Need-cast-if1 Inv-loop μ-loop Inv-rows μ-rows
+cast-if1 c = search needs
+
+shared-slice-read-if1 : tie.Need-shared-slice-read-if1 Inv-loop μ-loop Inv-rows μ-rows
+shared-slice-read-if1 c = search needs
 
 mul-table : tie.Need-mul-table Inv-loop μ-loop Inv-rows μ-rows
 mul-table c = omega (arith, place (c .before .before .before))
@@ -75,6 +97,12 @@ mul-e c = omega (arith, place (c .before .before .before))
 
 shared-slice-read-e : tie.Need-shared-slice-read-e Inv-loop μ-loop Inv-rows μ-rows
 shared-slice-read-e c = omega (arith, place (c .before .before .before .before))
+
+cast-if3 : tie.Need-cast-if3 Inv-loop μ-loop Inv-rows μ-rows
+cast-if3 c = search needs
+
+shared-slice-read-if3 : tie.Need-shared-slice-read-if3 Inv-loop μ-loop Inv-rows μ-rows
+shared-slice-read-if3 c = search needs
 
 mul-table-2 : tie.Need-mul-table-2 Inv-loop μ-loop Inv-rows μ-rows
 mul-table-2 c = omega (arith, place (turn (c .before .before .before)))
@@ -90,6 +118,9 @@ onward-requires c κs =
     let t = turn (c .before .before .before) in
     (start t .pre .0, record { row = place t .0; start = t .loop-test .taken; read = refl; dart = c .before .before .before .if2 .left; gone = c .if3 .left })
 
+enum-known-end : tie.Need-enum-known-end Inv-loop μ-loop Inv-rows μ-rows
+enum-known-end c = search needs
+
 mul-table-3 : tie.Need-mul-table-3 Inv-loop μ-loop Inv-rows μ-rows
 mul-table-3 c = omega (arith, place (turn (c .before .before .before .before .before .before .before)))
 
@@ -101,40 +132,67 @@ add-total-2 c =
     let f = rw (c .before .before .end .given .1) at (c .before .before .before .before .onward .ensures) in
     omega (arith, place (turn (c .before .before .before .before .before .before .before .before)), f .few)
 
+later-requires : tie.Need-later-requires Inv-loop μ-loop Inv-rows μ-rows
+later-requires c κs = search needs
+
+enum-known-why : tie.Need-enum-known-why Inv-loop μ-loop Inv-rows μ-rows
+enum-known-why c = search needs
+
+add-d : tie.Need-add-d Inv-loop μ-loop Inv-rows μ-rows
+add-d c = search needs
+
+loop-less : tie.Need-loop-less Inv-loop μ-loop Inv-rows μ-rows
+loop-less c = search needs
+
 loop-again : tie.Need-loop-again Inv-loop μ-loop Inv-rows μ-rows
 loop-again c =
     let t = c .before .before .before in
+    let a = start t .args in
     let p = start t .pre .0 in
     let v = t .before .loop .inv in
-    let e = entry (start t .args .darts) (now (start t .args .rows)) (t .before .before .before .rows .i) (t .before .loop .d) in (
+    let e = entry (a .darts) (now (a .rows)) (t .before .before .before .rows .i) (t .before .loop .d) in (
       omega arith,
       v .1,
       ⊎-elim
-          (λ w. filled-absent (v .2) (place t .0) (t .loop-test .taken) (w .0 .taken) (w .1) (w .2))
+          (λ w. filled-absent (v .2) (place t .0) (t .loop-test .taken) (w .0 .taken) (w .1) (w .2) (ap number (w .3)))
           (⊎-elim
-          (λ w. filled-end (v .2) (place t .0) (t .loop-test .taken) (w .0 .left) {end = record { dart = e; count = 1 }} (p .lent .darts) record { row = t .before .before .before .rows .i; is = arrives (first t) refl (w .2 .left) (sym (p .allowed e (w .2 .left))) refl (w .5 .taken); few = omega arith } (w .6) (w .7))
-          (λ w. filled-end (v .2) (place t .0) (t .loop-test .taken) (w .0 .left) (p .lent .darts) (rw (w .8 .given .1) at (w .6 .ensures)) (w .11) (w .12)))
+          (λ w. filled-end (v .2) (place t .0) (t .loop-test .taken) (w .0 .left) (arrives (first t) refl (w .2 .left) (p .allowed e (w .2 .left)) (w .5 .taken)) (omega arith) (arrived (first t) refl (w .5 .taken)) (w .6) (w .7) (ap number (w .8) ∙ omega arith))
+          (λ w. let f = rw (w .8 .given .1) at (w .6 .ensures) in filled-end (v .2) (place t .0) (t .loop-test .taken) (w .0 .left) (f .is) (omega (arith, f .few, p .lent .darts)) (f .stands) (w .12) (w .13) (ap number (w .14) ∙ w .11 .ensures)))
           (c .if1 .came),
       v .3,
     )
 
+add-i : tie.Need-add-i Inv-loop μ-loop Inv-rows μ-rows
+add-i c = search needs
+
+rows-less : tie.Need-rows-less Inv-loop μ-loop Inv-rows μ-rows
+rows-less c = search needs
+
 rows-again : tie.Need-rows-again Inv-loop μ-loop Inv-rows μ-rows
 rows-again c = let v = c .before .loop .inv in (omega arith, filled-row (v .2) (omega arith), v .3)
 
+same-length : tie.Need-same-length Inv-loop μ-loop Inv-rows μ-rows
+same-length c = search needs
+
 returns : tie.Need-returns Inv-loop μ-loop Inv-rows μ-rows
-returns c = let v = c .before .rows .inv in filled-all (v .1) (omega arith) refl (v .2)
+returns c = let v = c .before .rows .inv in filled-all (v .1) (omega arith) refl (v .2) refl
+
+same-length-2 : tie.Need-same-length-2 Inv-loop μ-loop Inv-rows μ-rows
+same-length-2 c = search needs
 
 returns-2 : tie.Need-returns-2 Inv-loop μ-loop Inv-rows μ-rows
 returns-2 c =
     let t = c .before .before .before .before .before in
-    let i = t .before .before .before .rows .i in
-    filled-missed (t .before .loop .inv .2) (place t .0) (t .loop-test .taken) (c .before .before .if1 .left) record { number = 5; row = i; dart = t .before .loop .d; is = strays (first t) refl (c .if2 .taken); said = refl }
+    filled-missed (t .before .loop .inv .2) (place t .0) (t .loop-test .taken) (c .before .before .if1 .left) (strays (first t) refl (c .if2 .taken)) refl
+
+same-length-3 : tie.Need-same-length-3 Inv-loop μ-loop Inv-rows μ-rows
+same-length-3 c = search needs
 
 returns-3 : tie.Need-returns-3 Inv-loop μ-loop Inv-rows μ-rows
 returns-3 c =
-    let e = c .before .before .before .before .before .before .before in
-    let t = turn e in
-    filled-missed (t .before .loop .inv .2) (place t .0) (t .loop-test .taken) (e .before .before .if1 .left) (rw (c .before .why .given .1) at (c .before .before .before .onward .ensures))
+    let t = turn (c .before .before .before .before .before .before .before) in
+    let f = rw (c .before .why .given .1) at (c .before .before .before .onward .ensures) in
+    filled-missed (t .before .loop .inv .2) (place t .0) (t .loop-test .taken) (c .before .before .before .before .before .before .before .before .before .if1 .left) (f .is) (f .said)
 
 pub fill-spec : {M : Type 1} → statement M
 fill-spec =
@@ -144,39 +202,40 @@ fill-spec =
     μ-loop
     Inv-rows
     μ-rows
-    (λ c. search needs)
+    add-i-end
     rows-holds
     loop-holds
-    (λ c. search needs)
+    cast-place
     mul-place
-    (λ c. search needs)
+    cast-place-2
     add-place
-    (λ c. search needs)
-    (λ c. search needs)
+    cast-if1
+    shared-slice-read-if1
     mul-table
     slice-write-table
     mul-e
     shared-slice-read-e
-    (λ c. search needs)
-    (λ c. search needs)
+    cast-if3
+    shared-slice-read-if3
     mul-table-2
     slice-write-table-2
     add-total
     onward-requires
-    (λ c. search needs)
+    enum-known-end
     mul-table-3
     slice-write-table-3
     add-total-2
-    (λ c. search needs)
-    (λ c. search needs)
-    (λ c. search needs)
+    later-requires
+    enum-known-why
+    add-d
+    loop-less
     loop-again
-    (λ c. search needs)
-    (λ c. search needs)
+    add-i
+    rows-less
     rows-again
-    (λ c. search needs)
+    same-length
     returns
-    (λ c. search needs)
+    same-length-2
     returns-2
-    (λ c. search needs)
+    same-length-3
     returns-3)

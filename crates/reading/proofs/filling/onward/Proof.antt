@@ -1,69 +1,86 @@
--- `reading::filling::onward` meets its contract. The invariant: a dart was met that is not on the level, and the whole walk goes on from it. The measure: the reads that are left. Assumes nothing.
-use mathlib.Core.Path.{refl, sym}
-use Prim.Native.Nat.{ℕ, _+_, _-_, _*_}
+-- `reading::onward` meets its contract. The invariant: a dart was met by row t that is not on the level, the whole walk goes on from it, and one more than the largest Λ so far is the level so far. The measure: the reads that are left. Assumes nothing.
+use mathlib.Core.Path.{_≡_, refl, sym, _∙_}
+use mathlib.Core.Bool.{true}
+use Prim.Native.Nat.{ℕ, _+_, _-_, _*_, _<_}
 use native.Mathlib.Omega.{arith}
 use denote.Ref.{now}
 use borrow.Author.Needs.{needs}
+use borrow.Author.Tests.{not-true, not-false}
+use Rattle.maps.specs.Mark.{canPass}
+use Rattle.maps.specs.Table.{each}
 use Rattle.reading.specs.Walks.{Allowed, Meets}
-use Rattle.reading.proofs.Walking.{Next, Met, met-first, next-fits, strays, arrives, meets, met-byte, no-pass, long, passes}
+use Rattle.reading.proofs.Walking.{entry-fits, Next, strays, arrives, arrived, Met, met-first, met-mark, met-no-pass, met-long, met-passes}
 use Rattle.reading.proofs.filling.onward.Statement.{statement}
 use Rattle.reading.proofs.filling.onward.Tie as tie
 
 -- n and h are no locals of the loop, so it holds for any
 abbrev Inv-loop : tie.InvT-loop
-Inv-loop darts rows lambda delta level involution dart met most t₀ from₀ count₀ t from count =
-    (n h : ℕ) → Allowed n darts h rows lambda delta (level .0) → Meets darts rows lambda (level .0) n (involution .0) dart met → Met rows lambda delta n darts h (level .0) (involution .0) dart (t .0) from count
+Inv-loop darts rows lambda delta level involution dart met most t₀ from₀ count₀ largest₀ t from count largest =
+    (largest < level .0) × ((n h : ℕ) → Allowed n darts h rows lambda delta (level .0) → Meets darts rows lambda (level .0) n (involution .0) dart met → Met rows lambda delta n darts h (level .0) (involution .0) dart (t .0) from count (largest + 1))
 
 abbrev μ-loop : tie.MeasureT-loop
-μ-loop darts rows lambda delta level involution dart met most t₀ from₀ count₀ t from count = 1 + 2 * darts - count
+μ-loop darts rows lambda delta level involution dart met most t₀ from₀ count₀ largest₀ t from count largest = 1 + 2 * darts - count
 
--- where the function starts, from a turn of the loop
+-- where the function starts, from the loop
 abbrev start : tie.At-loop Inv-loop μ-loop → tie.Start Inv-loop μ-loop
-start c = c .before .before .before .before
+start c = c .before .before .before .before .before
 
--- the turn, from where the row to go on by is known
+-- the dart met
+met-here : (c : tie.At-loop Inv-loop μ-loop) → let a = start c .args in Met (now (a .rows)) (now (a .lambda)) (now (a .delta)) (a .n .0) (a .darts) (a .h .0) (a .level .0) (a .involution .0) (a .dart) (c .loop .t .0) (c .loop .from) (c .loop .count) (c .loop .largest + 1)
+met-here c = let a = start c .args in c .loop .inv .1 (a .n .0) (a .h .0) (start c .pre .0) (start c .pre .1)
+
+-- where the loop begins a turn, from where the row to go on by is known
 abbrev turn : tie.After-across Inv-loop μ-loop → tie.At-loop Inv-loop μ-loop
 turn c = c .before .before .before .before .before
 
--- where the entry read is a dart, from where its Λ is read
-abbrev read : tie.After-struct-known Inv-loop μ-loop → tie.Else3 Inv-loop μ-loop
-read c = c .before .before
-
--- the dart met
-met : (c : tie.At-loop Inv-loop μ-loop) → let a = start c .args in Met (now (a .rows)) (now (a .lambda)) (now (a .delta)) (a .n .0) (a .darts) (a .h .0) (a .level .0) (a .involution .0) (a .dart) (c .loop .t .0) (c .loop .from) (c .loop .count)
-met c = let a = start c .args in c .loop .inv (a .n .0) (a .h .0) (start c .pre .0) (start c .pre .1)
+-- the dart met can be passed
+passed : (c : tie.Else1 Inv-loop μ-loop) → let b = c .before .before .before in canPass (each (now (start b .args .delta)) (b .loop .from)) (b .loop .t .0) ≡ true
+passed c = sym (c .before .can-pass .ensures) ∙ not-false (c .before .can-pass .result) (c .if1 .left)
 
 -- it is passed, and the row on the other side is read next
-next : (c : tie.After-across Inv-loop μ-loop) (n h : ℕ) → let t = turn c in let a = start t .args in
+next : (c : tie.After-across Inv-loop μ-loop) (n h : ℕ) → let b = turn c in let a = start b .args in
     Allowed n (a .darts) h (now (a .rows)) (now (a .lambda)) (now (a .delta)) (a .level .0) → Meets (a .darts) (now (a .rows)) (now (a .lambda)) (a .level .0) n (a .involution .0) (a .dart) (a .met)
-    → Next (now (a .rows)) (now (a .lambda)) (now (a .delta)) n (a .darts) h (a .level .0) (a .involution .0) (a .dart) (c .across .result .0) (t .loop .from) (t .loop .count)
-next c n h p m = passes (turn c .loop .inv n h p m) (c .before .before .before .can-pass .ensures) (c .before .before .if1 .left) (c .before .if2 .left) (c .across .ensures)
+    → Next (now (a .rows)) (now (a .lambda)) (now (a .delta)) n (a .darts) h (a .level .0) (a .involution .0) (a .dart) (c .across .result .0) (b .loop .from) (b .loop .count) (b .loop .largest + 1)
+next c n h p m = met-passes p (turn c .loop .inv .1 n h p m) (passed (c .before .before)) (c .before .if2 .left) (c .across .ensures)
 
-next-here : (c : tie.After-across Inv-loop μ-loop) → let t = turn c in let a = start t .args in
-    Next (now (a .rows)) (now (a .lambda)) (now (a .delta)) (a .n .0) (a .darts) (a .h .0) (a .level .0) (a .involution .0) (a .dart) (c .across .result .0) (t .loop .from) (t .loop .count)
-next-here c = let s = start (turn c) in next c (s .args .n .0) (s .args .h .0) (s .pre .0) (s .pre .1)
+next-here : (c : tie.After-across Inv-loop μ-loop) → let b = turn c in let a = start b .args in
+    Next (now (a .rows)) (now (a .lambda)) (now (a .delta)) (a .n .0) (a .darts) (a .h .0) (a .level .0) (a .involution .0) (a .dart) (c .across .result .0) (b .loop .from) (b .loop .count) (b .loop .largest + 1)
+next-here c = let b = turn c in next c (start b .args .n .0) (start b .args .h .0) (start b .pre .0) (start b .pre .1)
+
+mul-most : tie.Need-mul-most Inv-loop μ-loop
+mul-most c = search needs
+
+add-most : tie.Need-add-most Inv-loop μ-loop
+add-most c = search needs
+
+shared-slice-read-largest : tie.Need-shared-slice-read-largest Inv-loop μ-loop
+shared-slice-read-largest c = let p = c .before .before .before .before .pre in omega (arith, p .1 .dart, p .0 .lent .lambda-length)
+
+cast-largest : tie.Need-cast-largest Inv-loop μ-loop
+cast-largest c = search needs
 
 loop-holds : tie.Need-loop-holds Inv-loop μ-loop
-loop-holds c n h p m = met-first p m
+loop-holds c = (c .before .before .before .before .pre .1 .gone, λ n h p m. met-first (now (c .before .before .before .before .args .delta)) h m)
 
-shared-slice-read-if4 : tie.Need-shared-slice-read-if4 Inv-loop μ-loop
-shared-slice-read-if4 c = omega (arith, met (c .before) .meets .dart, start (c .before) .pre .0 .lent .delta-length)
+shared-slice-read-own : tie.Need-shared-slice-read-own Inv-loop μ-loop
+shared-slice-read-own c = omega (arith, met-here (c .before) .meets .dart, start (c .before) .pre .0 .lent .delta-length)
 
 can-pass-requires : tie.Need-can-pass-requires Inv-loop μ-loop
-can-pass-requires c κs = met-byte (met (c .before)) (start (c .before) .pre .0 .lent .dimension)
+can-pass-requires c κs = met-mark (start (c .before) .pre .0) (met-here (c .before))
 
-cast-t24 : tie.Need-cast-t24 Inv-loop μ-loop
-cast-t24 c = omega (arith, met (c .before .before .before) .meets .dart)
+cast-t28 : tie.Need-cast-t28 Inv-loop μ-loop
+cast-t28 c = omega (arith, met-here (c .before .before .before) .meets .dart)
 
 returns : tie.Need-returns Inv-loop μ-loop
 returns c =
-    let t = c .before .before .before in
-    record { number = 14; row = t .loop .t .0; dart = t .loop .from; is = no-pass (met t) (c .before .can-pass .ensures) (c .if1 .taken); said = refl }
+    let b = c .before .before .before in
+    record { number = 14; row = b .loop .t .0; dart = b .loop .from; is = met-no-pass (start b .pre .0) (met-here b) (sym (c .before .can-pass .ensures) ∙ not-true (c .before .can-pass .result) (c .if1 .taken)); said = refl }
 
 returns-2 : tie.Need-returns-2 Inv-loop μ-loop
 returns-2 c =
-    let t = c .before .before .before .before in
-    record { number = 15; row = start t .args .involution .0; dart = start t .args .dart; is = long (met t) (c .before .before .can-pass .ensures) (c .before .if1 .left) (c .if2 .taken); said = refl }
+    let b = c .before .before .before .before in
+    let a = start b .args in
+    record { number = 15; row = a .involution .0; dart = a .dart; is = met-long (start b .pre .0) (met-here b) (passed (c .before)) (c .if2 .taken); said = refl }
 
 across-requires : tie.Need-across-requires Inv-loop μ-loop
 across-requires c κs = can-pass-requires (c .before .before .before) κs
@@ -72,37 +89,60 @@ cast-at : tie.Need-cast-at Inv-loop μ-loop
 cast-at c = omega (arith, next-here c .dart)
 
 at-requires : tie.Need-at-requires Inv-loop μ-loop
-at-requires c κs = next-fits (start (turn c) .pre .0 .lent) (next-here c)
+at-requires c κs = entry-fits (start (turn c) .pre .0 .lent) (next-here c .row) (next-here c .dart)
 
-cast-t28 : tie.Need-cast-t28 Inv-loop μ-loop
-cast-t28 c = cast-at (c .before .before)
+cast-t32 : tie.Need-cast-t32 Inv-loop μ-loop
+cast-t32 c = cast-at (c .before .before)
 
 returns-3 : tie.Need-returns-3 Inv-loop μ-loop
 returns-3 c =
-    let p = c .before .before in
-    record { number = 5; row = p .across .result .0; dart = turn p .loop .from; is = strays (next-here p) (c .before .at .ensures) (c .if3 .taken); said = refl }
+    let b = turn (c .before .before) in
+    record { number = 5; row = c .before .before .across .result .0; dart = b .loop .from; is = strays (next-here (c .before .before)) (c .before .at .ensures) (c .if3 .taken); said = refl }
 
 add-count : tie.Need-add-count Inv-loop μ-loop
 add-count c = omega (arith, next-here (c .before .before) .few)
 
-shared-slice-read-if4-2 : tie.Need-shared-slice-read-if4-2 Inv-loop μ-loop
-shared-slice-read-if4-2 c = omega (arith, c .before .if3 .left, start (turn (c .before .before .before)) .pre .0 .lent .lambda-length)
+cast-to : tie.Need-cast-to Inv-loop μ-loop
+cast-to c = search needs
+
+shared-slice-read-own-2 : tie.Need-shared-slice-read-own-2 Inv-loop μ-loop
+shared-slice-read-own-2 c = omega (arith, c .before .if3 .left, start (turn (c .before .before .before)) .pre .0 .lent .lambda-length)
+
+add-t35 : tie.Need-add-t35 Inv-loop μ-loop
+add-t35 c = omega (arith, turn (c .before .before .before .before .before) .loop .inv .0)
+
+cast-t36 : tie.Need-cast-t36 Inv-loop μ-loop
+cast-t36 c = omega (arith, turn (c .before .before .before .before .before) .loop .inv .0)
 
 returns-4 : tie.Need-returns-4 Inv-loop μ-loop
 returns-4 c =
-    let r = read (c .before) in
-    let p = r .before .before in
-    let e = r .before .at .result in
-    let fine = start (turn p) .pre .0 .allowed e (r .if3 .left) in
-    record { row = p .across .result .0; is = arrives (next-here p) (r .before .at .ensures) (r .if3 .left) (sym fine) refl (c .if4 .taken); few = omega (arith, next-here p .few) }
+    let x = next-here (c .before .before .before .before .before) in
+    let at = c .before .before .before .before .at in
+    let e = c .before .before .before .if3 .left in
+    record {
+      row = c .before .before .before .before .before .across .result .0;
+      is = arrives x (at .ensures) e (start (turn (c .before .before .before .before .before)) .pre .0 .allowed (at .result) e) (c .if4 .taken);
+      few = omega (arith, x .few);
+      stands = arrived x (at .ensures) (c .if4 .taken);
+    }
+
+cast-larger : tie.Need-cast-larger Inv-loop μ-loop
+cast-larger c = omega (arith, c .if4 .left)
+
+larger-requires : tie.Need-larger-requires Inv-loop μ-loop
+larger-requires c κs = search needs
 
 loop-less : tie.Need-loop-less Inv-loop μ-loop
-loop-less c = omega (arith, next-here (read (c .before) .before .before) .few)
+loop-less c = omega (arith, next-here (c .before .before .before .before .before .before) .few)
 
 loop-again : tie.Need-loop-again Inv-loop μ-loop
-loop-again c n h p m =
-    let r = read (c .before) in
-    meets (next (r .before .before) n h p m) (r .before .at .ensures) (r .if3 .left) (p .lent .level) (c .if4 .left) (p .allowed (r .before .at .result) (r .if3 .left))
+loop-again c = (
+  omega (arith, c .larger .ensures, c .before .if4 .left, turn (c .before .before .before .before .before .before) .loop .inv .0),
+  λ n h p m.
+      let x = next (c .before .before .before .before .before .before) n h p m in
+      let b = turn (c .before .before .before .before .before .before) in
+      record { source = b .loop .from; before = b .loop .count; so-far = b .loop .largest + 1; next = x; reads = refl; meets = record { row = x .row; start = x .dart; read = c .before .before .before .before .before .at .ensures; dart = c .before .before .before .before .if3 .left; gone = c .before .if4 .left }; raise = omega (arith, c .larger .ensures) },
+)
 
 pub onward-spec : {M : Type 1} → statement M
 onward-spec =
@@ -110,22 +150,28 @@ onward-spec =
     (tie.spec
     Inv-loop
     μ-loop
-    (λ c. search needs)
-    (λ c. search needs)
+    mul-most
+    add-most
+    shared-slice-read-largest
+    cast-largest
     loop-holds
-    shared-slice-read-if4
+    shared-slice-read-own
     can-pass-requires
-    cast-t24
+    cast-t28
     returns
     returns-2
     across-requires
     cast-at
     at-requires
-    cast-t28
+    cast-t32
     returns-3
     add-count
-    (λ c. search needs)
-    shared-slice-read-if4-2
+    cast-to
+    shared-slice-read-own-2
+    add-t35
+    cast-t36
     returns-4
+    cast-larger
+    larger-requires
     loop-less
     loop-again)

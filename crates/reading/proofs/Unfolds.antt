@@ -11,7 +11,7 @@ use Rattle.maps.specs.Sizes.{number1, number2, number3, sizes, number4, number1
 use Rattle.maps.specs.Table.{each, listed, absent}
 use Rattle.maps.specs.Folded.{refusedMarks}
 use Rattle.maps.specs.MarksBack.{atMarks8}
-use Rattle.maps.specs.Unfold.{atWalk, unfoldLent, unfoldTotal, unfoldLeaves}
+use Rattle.maps.specs.Unfold.{atWalk, unfoldLent, unfoldTotal, unfoldSince, unfoldLeaves}
 use Rattle.laws.proofs.Verdicts.{not-refused, then-accepted, then-three, and-both}
 use Rattle.laws.proofs.Sizes.{lent-sized}
 use Rattle.answers.specs.Numbers.{refusalOf}
@@ -24,8 +24,9 @@ use Rattle.reading.specs.declared.filling.Stop.{Stop}
 use Rattle.reading.specs.declared.filling.Stop.the-variants.{Nowhere, Long, Strays, NoPass}
 use Rattle.reading.specs.declared.Total.{Total}
 use Rattle.reading.specs.declared.Total.the-variants.{Counted, Refused}
+use Rattle.reading.specs.declared.Unfolding.{Unfolding}
 use Rattle.reading.specs.declared.filling.Walks.{Walks}
-use Rattle.reading.specs.Answers.{checkOf, totalOf}
+use Rattle.reading.specs.Answers.{checkOf, totalOf, latestOf}
 use Rattle.reading.specs.Walks.{stopOf, walksVerdict, Leaves}
 
 -- 5, 14 and 15: after these the table is 65,535 throughout
@@ -100,19 +101,19 @@ module _ (n N h : ℕ) (rows lambda delta : List ℕ) (l : ℕ) (table : List �
       let b = and-both (pyramidFits n N rows lambda delta) (hasLength table (suc n * N)) (lent-sized n N h fits (f .0) .1) in
       (asked-lent n N h rows lambda delta l 0 0 (rw (b .0) (rw (b .0, b .1) at e)), eqb-true (length table) (suc n * N) (b .1))
 
-  -- the contract's three clauses
-  abbrev Gives : Verdict → ℕ → List ℕ → Type 0
-  Gives v total after = (v ≡ answer) × ((total ≡ unfoldTotal n N h rows lambda delta l table) × (after ≡ unfoldLeaves n N h rows lambda delta l table))
+  -- the contract's four clauses
+  abbrev Gives : Verdict → ℕ → ℕ → List ℕ → Type 0
+  Gives v total later after = (v ≡ answer) × ((total ≡ unfoldTotal n N h rows lambda delta l table) × ((later ≡ unfoldSince n N h rows lambda delta l table) × (after ≡ unfoldLeaves n N h rows lambda delta l table)))
 
-  refuses : (r : Refusal) {after : List ℕ} → refusalOf r ≡ answer → after ≡ cond (spoils (refusalOf r)) (listed (λ x. absent) (length table)) table → Gives (refusalOf r) 0 after
-  unfolding unfoldTotal unfoldLeaves
-  refuses r e f = let x = refusal-refuses r in (e, (rw (← e, x .is), f ∙ rw (← e, x .is)))
+  refuses : (r : Refusal) {after : List ℕ} → refusalOf r ≡ answer → after ≡ cond (spoils (refusalOf r)) (listed (λ x. absent) (length table)) table → Gives (refusalOf r) 0 0 after
+  unfolding unfoldTotal unfoldSince unfoldLeaves
+  refuses r e f = let x = refusal-refuses r in (e, (rw (← e, x .is), (rw (← e, x .is), f ∙ rw (← e, x .is))))
 
-  pub unfold-first : (r : Refusal) → refusalOf r ≡ first → Gives (refusalOf r) 0 table
+  pub unfold-first : (r : Refusal) → refusalOf r ≡ first → Gives (refusalOf r) 0 0 table
   unfold-first r e = refuses r (refused-first answer first (marks then walks) unfold-is r e) (rw (ap spoils e ∙ asked-keeps n N h fits l))
 
   module _ (ok : accepted ≡ first) where
-    pub unfold-marks : (r : Refusal) → refusalOf r ≡ marks → Gives (refusalOf r) 0 table
+    pub unfold-marks : (r : Refusal) → refusalOf r ≡ marks → Gives (refusalOf r) 0 0 table
     unfolding atMarks8
     unfold-marks r e =
         refuses r (refused-second answer first (marks then walks) unfold-is r ok (refused-then r marks walks e))
@@ -123,14 +124,18 @@ module _ (n N h : ℕ) (rows lambda delta : List ℕ) (l : ℕ) (table : List �
       decides : answer ≡ walks
       decides = unfold-is ∙ (rw (← ok, ← fine))
 
-      pub unfold-counted : {t : Total} {total : ℕ} → t ≡ Counted total → (checkOf t ≡ stopOf l (w .stop)) × (totalOf t ≡ ifAccepted (stopOf l (w .stop)) (w .total) 0) → Gives accepted total after
-      unfolding unfoldTotal unfoldLeaves atWalk
-      unfold-counted {t} {total} e q =
-          let f : (accepted ≡ stopOf l (w .stop)) × (total ≡ ifAccepted (stopOf l (w .stop)) (w .total) 0) = rw e at q in
-          let all : walks ≡ accepted = sym (f .0 ∙ left .first) in
-          (rw (decides, all), (rw (decides, all) ((rw (← (f .0)) at (f .1)) ∙ left .total all), rw (decides, all) (left .level all)))
+      -- what the walks' answer says
+      abbrev Answered : Total → Type 0
+      Answered t = (checkOf t ≡ stopOf l (w .stop)) × ((totalOf t ≡ ifAccepted (stopOf l (w .stop)) (w .total) 0) × (latestOf t ≡ ifAccepted (stopOf l (w .stop)) (w .since .0) 0))
 
-      pub unfold-refused : {t : Total} {r : Refusal} → t ≡ Refused r → (checkOf t ≡ stopOf l (w .stop)) × (totalOf t ≡ ifAccepted (stopOf l (w .stop)) (w .total) 0) → length table ≡ suc n * N → Gives (refusalOf r) 0 (listed (λ x. absent) (length after))
+      pub unfold-counted : {t : Total} {u : Unfolding} → t ≡ Counted u → Answered t → Gives accepted (u .count) (u .since .0) after
+      unfolding unfoldTotal unfoldSince unfoldLeaves atWalk
+      unfold-counted {t} {u} e q =
+          let f : Answered (Counted u) = rw e at q in
+          let all : walks ≡ accepted = sym (f .0 ∙ left .first) in
+          (rw (decides, all), (rw (decides, all) ((rw (← (f .0)) at (f .1 .0)) ∙ left .total all), (rw (decides, all) ((rw (← (f .0)) at (f .1 .1)) ∙ left .since all), rw (decides, all) (left .level all))))
+
+      pub unfold-refused : {t : Total} {r : Refusal} → t ≡ Refused r → Answered t → length table ≡ suc n * N → Gives (refusalOf r) 0 0 (listed (λ x. absent) (length after))
       unfold-refused {t} {r} e q size =
           let f : refusalOf r ≡ stopOf l (w .stop) = rw e at (q .0) in
           refuses r (f ∙ left .first ∙ sym decides) (rw (stop-spoils l (w .stop) r f) (ap (listed (λ x. absent)) (left .size ∙ sym size)))

@@ -1,0 +1,42 @@
+-- An accepted pyramid is a tower whose darts are passed between the rows of their marks. Assumes nothing.
+use mathlib.Core.Path.{_≡_, refl, sym, ap, _∙_}
+use mathlib.Core.Bool.{Bool, true, false}
+use Prim.Native.Nat.{ℕ, zero, suc, _≤_, _<_}
+use native.Mathlib.Omega.{arith}
+use lib.Dec.{eqb}
+use borrow.Author.Tests.{eqb-true, eqb-false}
+use Rattle.maps.specs.Map.{Involutions}
+use Rattle.maps.specs.Mark.{isMark, widest}
+use Rattle.maps.specs.Folded.{On, refusedMarks, marks, level}
+use Rattle.maps.specs.Pyramid.{Pyramid}
+use Rattle.facts.proofs.Levels.{low, high, taken, taken-is, marks-at, allowed-small, level-suc, level-valid, level-passing}
+use Rattle.facts.proofs.Namings.{passing-same, without-same}
+use Rattle.facts.proofs.Towers.{inKernel, floor, Tower, on-below}
+
+module _ (a : Involutions) (n N h : ℕ) (Λ Δ : ℕ → ℕ) (ln : n ≤ widest) (allowed : (d : ℕ) → d < N → refusedMarks n h (Λ d) (Δ d) ≡ false) where
+  -- the mark row of level l marks the darts of kernel l
+  pub taken-in : (l d : ℕ) → l < h → d < N → taken n h Λ Δ l d ≡ inKernel Λ l d
+  taken-in l d k ld = go (eqb (Λ d) l) refl (taken n h Λ Δ l d) refl
+    where
+      go : (x : Bool) → eqb (Λ d) l ≡ x → (y : Bool) → taken n h Λ Δ l d ≡ y → taken n h Λ Δ l d ≡ inKernel Λ l d
+      go true e y q = let f = eqb-true (Λ d) l e in ap (isMark n) (marks-at n h Λ Δ l d k f) ∙ allowed-small n h Λ Δ d (allowed d ld) (omega arith) ∙ sym e
+      go false e true q = absurd (eqb-false (Λ d) l e (taken-is n h Λ Δ ln l d q .lambda))
+      go false e false q = q ∙ sym e
+
+  -- the pyramid's tower
+  module _ (y : Pyramid a n N h Λ Δ) where
+    pub level-floor : (l : ℕ) → l ≤ h → (i d : ℕ) → i ≤ n → On N Λ l d → level a n N (marks h Λ Δ) l i d ≡ floor a (low Δ) (high Δ) N Λ l i d
+    unfolding level floor
+    level-floor zero k i d li o = refl
+    level-floor (suc l) k i d li o =
+        ap (λ (b : Involutions). b i d) (level-suc a n N h Λ Δ ln l)
+        ∙ without-same (level a n N (marks h Λ Δ) l) (floor a (low Δ) (high Δ) N Λ l) n (On N Λ l) (level-valid a n N h Λ Δ y l (omega arith)) (low Δ) (high Δ) (low Δ) (high Δ) (taken n h Λ Δ l) (inKernel Λ l) (level-passing a n N h Λ Δ y l k)
+        (level-floor l (omega arith)) (λ x p. taken-in l x k (p .0)) (λ x p q. (refl, refl)) N i d li (on-below N Λ l d o .0)
+
+    -- an accepted pyramid is a tower
+    pub pyramid-tower : Tower a n N h Λ (low Δ) (high Δ)
+    pyramid-tower = record {
+      base = y .base;
+      kernel = λ l k. passing-same (level a n N (marks h Λ Δ) l) (floor a (low Δ) (high Δ) N Λ l) n (On N Λ l) (level-valid a n N h Λ Δ y l (omega arith)) (low Δ) (high Δ) (low Δ) (high Δ) (taken n h Λ Δ l) (inKernel Λ l) (level-passing a n N h Λ Δ y l k)
+          (level-floor l (omega arith)) (λ x p. taken-in l x k (p .0)) (λ x p q. (refl, refl));
+    }
