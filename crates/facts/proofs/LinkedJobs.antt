@@ -2,7 +2,7 @@
 use mathlib.Core.Path.{_≡_, refl, sym, ap, _∙_}
 use mathlib.Core.Logic.{_⊎_, inl, inr}
 use mathlib.Core.Bool.{Bool, true, false, cond}
-use mathlib.Core.List.{List}
+use mathlib.Core.List.{List, reverse}
 use Prim.Native.Nat.{ℕ, zero, suc, _+_, _≤_, _<_, max}
 use native.Mathlib.Omega.{arith}
 use lib.Dec.{eqb, leb}
@@ -17,7 +17,8 @@ use Rattle.maps.specs.CheckPyramid.{checkLent}
 use Rattle.maps.specs.Read.{found, readLent, readSince}
 use Rattle.maps.specs.Unfold.{unfoldSince}
 use Rattle.facts.proofs.AcceptedJobs.{accepted-pyramid, accepted-facts, accepted-read, accepted-unfold}
-use Rattle.facts.proofs.Links.{Since, stands-since, walk-trail}
+use Rattle.facts.proofs.Levels.{level-valid}
+use Rattle.facts.proofs.Links.{Since, stands-since, walk-trail, both-ends}
 
 -- a largest number is at least each of the numbers
 pub largest-most : (f : ℕ → ℕ) (m x : ℕ) → x < m → f x ≤ largest f m
@@ -98,3 +99,34 @@ module _ (n N h : ℕ) (rows lambda delta table : List ℕ) (e : checkLent n N h
       outer : (latest a N Λ Δ l n ≡ 0) ⊎ ((i : ℕ) × (i < suc n) × (latest a N Λ Δ l n ≡ row i)) → (latest a N Λ Δ l n ≡ 0) ⊎ ((i : ℕ) × (d : ℕ) × (i ≤ n) × On N Λ l d × (latest a N Λ Δ l n ≡ since a N Λ Δ l i d))
       outer (inl z) = inl z
       outer (inr r) = inner (r .0) (omega (arith, r .1)) (r .2) (largest-one (λ b. cond (survives Λ l b) (since a N Λ Δ l (r .0) b) 0) N)
+
+  -- What the readings of the two ends of a link tell: each finds the other, with the same count and since the same level, past the same darts in the reverse order; the count is one more than the darts passed.
+  pub record BothEnds (i d : ℕ) : Type 0 where
+    pub other : ℕ
+    pub count : ℕ
+    pub there : readLent n N h rows lambda delta l i d ≡ found other count
+    pub back : readLent n N h rows lambda delta l i other ≡ found d count
+    pub same-since : readSince n N h rows lambda delta l i other ≡ readSince n N h rows lambda delta l i d
+    pub reversed : trail a N Λ Δ l i other ≡ reverse (trail a N Λ Δ l i d)
+    pub counted : count ≡ suc (length (trail a N Λ Δ l i d))
+
+  pub accepted-both-ends : (i d : ℕ) → i ≤ n → On N Λ l d → BothEnds i d
+  accepted-both-ends i d li o =
+      let y = accepted-pyramid n N h rows lambda delta table e in
+      let s = both-ends a n N h Λ Δ y l k i d li o in
+      let other : ℕ = level a n N (marks h Λ Δ) l i d in
+      let there-on : On N Λ l other = level-valid a n N h Λ Δ y l k .inside i d li o in
+      let w = walk-trail a n N h Λ Δ y l k i d li o in
+      let v = walk-trail a n N h Λ Δ y l k i other li there-on in
+      let same-count : s .count ≡ suc (length (trail a N Λ Δ l i d)) = cc (sym (s .there) ∙ w) in
+      let back-dart : level a n N (marks h Λ Δ) l i other ≡ d = cc (sym v ∙ s .back) in
+      let back-count : suc (length (trail a N Λ Δ l i other)) ≡ s .count = cc (sym v ∙ s .back) in
+      record {
+        other = other;
+        count = s .count;
+        there = rw same-count (accepted-trail i d li o);
+        back = accepted-trail i other li there-on ∙ ap (λ (x : ℕ). found x (suc (length (trail a N Λ Δ l i other)))) back-dart ∙ ap (found d) back-count;
+        same-since = accepted-since i other li there-on .0 ∙ s .same-since ∙ sym (accepted-since i d li o .0);
+        reversed = s .reversed;
+        counted = same-count;
+      }

@@ -1,6 +1,6 @@
--- Since which level a link of an accepted pyramid stands. Assumes nothing.
+-- Since which level a link of an accepted pyramid stands, and that its two ends tell the same. Assumes nothing.
 use mathlib.Core.Path.{_≡_, sym, ap, _∙_}
-use mathlib.Core.List.{List, _∷_}
+use mathlib.Core.List.{List, _∷_, reverse}
 use Prim.Native.Nat.{ℕ, zero, suc, _+_, _*_, _≤_, _<_}
 use native.Mathlib.Omega.{arith}
 use lib.ListN.{length}
@@ -11,7 +11,7 @@ use Rattle.maps.specs.Walk.{ended, walk}
 use Rattle.maps.specs.Pyramid.{Pyramid}
 use Rattle.laws.proofs.Counting.{count-le}
 use Rattle.facts.proofs.Runs.{swap, Run}
-use Rattle.facts.proofs.Levels.{low, high}
+use Rattle.facts.proofs.Levels.{low, high, level-valid}
 use Rattle.facts.proofs.Readings.{run-walk}
 use Rattle.maps.specs.Trail.{sinceOf, trailFrom, trail, since}
 use Rattle.facts.proofs.Trails.{darts, length-darts}
@@ -32,6 +32,14 @@ pub record Since (a : Involutions) (n N h : ℕ) (Λ Δ : ℕ → ℕ) (l i b : 
   pub at-most : since a N Λ Δ l i b ≤ l
   pub same : (m : ℕ) → since a N Λ Δ l i b ≤ m → m ≤ l → level a n N (marks h Λ Δ) m i b ≡ level a n N (marks h Λ Δ) l i b
   pub other : (m : ℕ) → m < since a N Λ Δ l i b → level a n N (marks h Λ Δ) m i b ≡ level a n N (marks h Λ Δ) l i b → ⊥
+
+-- What the two ends b and e of a link tell on level l by involution i: each walk ends at the other's start with the same count, past the same darts in the reverse order, since the same level.
+pub record Story (a : Involutions) (n N h : ℕ) (Λ Δ : ℕ → ℕ) (l i b e : ℕ) : Type 0 where
+  pub count : ℕ
+  pub there : walk a n N h Λ Δ l i b ≡ ended i e count
+  pub back : walk a n N h Λ Δ l i e ≡ ended i b count
+  pub reversed : trail a N Λ Δ l i e ≡ reverse (trail a N Λ Δ l i b)
+  pub same-since : since a N Λ Δ l i e ≡ since a N Λ Δ l i b
 
 -- the direct walk of dart b of level l by involution i in an accepted pyramid
 module _ (a : Involutions) (n N h : ℕ) (Λ Δ : ℕ → ℕ) (y : Pyramid a n N h Λ Δ) (l : ℕ) (k : l ≤ h) (i b : ℕ) (li : i ≤ n) (o : On N Λ l b) where
@@ -94,3 +102,18 @@ module _ (a : Involutions) (n N h : ℕ) (Λ Δ : ℕ → ℕ) (y : Pyramid a n 
         let x′ : m < sinceOf Λ passed = rw since-is at x in
         own .other m x′ (sym (level-end m (omega (arith, own .at-most))) ∙ q ∙ level-end l (omega arith));
   }
+
+  -- Both ends tell the same story.
+  pub both-ends : Story a n N h Λ Δ l i b (level a n N (marks h Λ Δ) l i b)
+  unfolding trail since
+  both-ends =
+      let e = level-end l (omega arith) in
+      let le : end < N = rw e at (level-valid a n N h Λ Δ y l k .inside i b li o .0) in
+      let t : trail a N Λ Δ l i end ≡ darts a (low Δ) (high Δ) (gone Λ l) passes i end = trail-run a N Λ Δ l passes (1 + 2 * N) i end i b fits (own .back) in
+      record {
+        count = suc passes;
+        there = rw e (walk-is b end (o .0) (own .there));
+        back = rw e (walk-is end b le (own .back));
+        reversed = rw e (t ∙ own .reversed ∙ ap reverse (sym trail-is));
+        same-since = rw e (ap (sinceOf Λ) t ∙ own .back-since ∙ sym since-is);
+      }
