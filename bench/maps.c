@@ -1,4 +1,5 @@
-/* The maps that the jobs are measured on: grids of cubes, and pyramids by removing some of their removable cells. */
+/* The maps that the jobs are measured on: grids of cubes, and pyramids by removing some of their removable cells, in
+ * some of them also by contracting contractible ones. */
 #include "maps.h"
 #include "plain.h"
 
@@ -10,8 +11,9 @@ struct form {
     const char *name;
     unsigned n, size[4];
     unsigned hole_from[4], hole_to[4]; /* cubes left out */
-    unsigned levels, percent;          /* how many levels, and how many of the removable cells go in each */
+    unsigned levels, percent;          /* how many levels, and how many of the cells that fit go in each */
     int shuffled;                      /* darts numbered at random */
+    int contracted;                    /* every kernel has cells of both kinds */
 };
 
 static const struct form forms[] = {
@@ -30,6 +32,10 @@ static const struct form forms[] = {
     {"strip-1024", 2, {1, 128, 1, 1}, {0}, {0}, 8, 30, 1},
     {"strip-512", 2, {1, 64, 1, 1}, {0}, {0}, 8, 30, 1},
     {"voxels", 3, {3, 5, 6, 1}, {1, 1, 1, 0}, {2, 3, 4, 1}, 9, 30, 0},
+    {"both1", 1, {2048, 1, 1, 1}, {0}, {0}, 32, 4, 0, 1},
+    {"both2", 2, {16, 32, 1, 1}, {0}, {0}, 8, 15, 0, 1},
+    {"both3", 3, {3, 4, 7, 1}, {0}, {0}, 9, 15, 0, 1},
+    {"both4", 4, {1, 1, 2, 5}, {0}, {0}, 8, 15, 0, 1},
 };
 
 static uint64_t random_state;
@@ -157,45 +163,68 @@ static void shuffle_darts(struct pyramid *p)
 
 /* ---------------------------------------------------------------- pyramids */
 
-/* Sets the marks of one cell. */
-static void mark_cell(const struct pyramid *p, const uint16_t *table, unsigned dimension, unsigned dart, uint8_t mark,
-                      uint8_t *marks)
+/* The darts of one cell, in the order in which they are reached; returns how many. */
+static unsigned list_cell(const struct pyramid *p, const uint16_t *table, unsigned dimension, unsigned dart,
+                          uint16_t *cell)
 {
-    static uint16_t open[ZG_MOST_DARTS];
     static uint8_t met[ZG_MOST_DARTS];
     unsigned opens = 0, all = 1;
     memset(met, 0, sizeof met);
-    open[0] = (uint16_t)dart;
+    cell[0] = (uint16_t)dart;
     met[dart] = 1;
-    for (; opens < all; opens++) {
-        marks[open[opens]] = mark;
+    for (; opens < all; opens++)
         for (unsigned j = 0; j <= p->n; j++) {
-            unsigned e = table[j * p->darts + open[opens]];
+            unsigned e = table[j * p->darts + cell[opens]];
             if (j != dimension && !met[e]) {
                 met[e] = 1;
-                open[all++] = (uint16_t)e;
+                cell[all++] = (uint16_t)e;
             }
         }
-    }
+    return all;
 }
 
-/* Some of the removable cells of one dimension. */
-static void choose_cells(const struct pyramid *p, const uint16_t *table, unsigned dimension, unsigned percent,
-                         uint8_t *marks)
+static int none_marked(const uint16_t *cell, unsigned size, const uint8_t *marks)
 {
-    const uint8_t taken = 254;
+    for (unsigned k = 0; k < size; k++)
+        if (marks[cell[k]] != ZG_STAY)
+            return 0;
+    return 1;
+}
+
+/* Marks some of the removable cells of one dimension, apart from what is marked already. */
+static void choose_cells(const struct pyramid *p, const uint16_t *table, unsigned dimension, unsigned percent,
+                         uint8_t mark, uint8_t *marks)
+{
+    static uint16_t cell[ZG_MOST_DARTS];
+    static uint8_t fits[ZG_MOST_DARTS];
     size_t len = (size_t)(p->n + 1) * p->darts;
-    if (plain_mark_cells(p->n, p->darts, table, len, (uint8_t)dimension, marks, p->darts).number)
+    if (plain_mark_cells(p->n, p->darts, table, len, (uint8_t)dimension, fits, p->darts).number)
         abort();
     for (unsigned d = 0; d < p->darts; d++)
-        if (marks[d] == dimension)
-            mark_cell(p, table, dimension, d, random_below(100) < percent ? taken : ZG_STAY, marks);
-    for (unsigned d = 0; d < p->darts; d++)
-        if (marks[d] == taken)
-            marks[d] = (uint8_t)dimension;
+        if (fits[d] != ZG_STAY) {
+            unsigned size = list_cell(p, table, dimension, d, cell);
+            int taken = random_below(100) < percent && none_marked(cell, size, marks);
+            for (unsigned k = 0; k < size; k++) {
+                fits[cell[k]] = ZG_STAY;
+                if (taken)
+                    marks[cell[k]] = mark;
+            }
+        }
 }
 
-static void add_levels(struct pyramid *p, unsigned levels, unsigned percent)
+/* A cell of dimension d is contractible where it is removable, with dimension n-d, in the map whose rows stand in the
+ * other order. */
+static void choose_contracted(const struct pyramid *p, const uint16_t *table, unsigned dimension, unsigned percent,
+                              uint8_t *marks)
+{
+    static uint16_t turned[ZG_MOST_ENTRIES];
+    for (unsigned i = 0; i <= p->n; i++)
+        memcpy(turned + (p->n - i) * p->darts, table + i * p->darts, p->darts * sizeof *table);
+    choose_cells(p, turned, p->n - dimension, percent, (uint8_t)(ZG_CONTRACT + dimension), marks);
+}
+
+/* Dimensions in turn: the highest first to be removed, edges first to be contracted. */
+static void add_levels(struct pyramid *p, const struct form *f)
 {
     static uint16_t table[ZG_MOST_ENTRIES];
     static uint8_t marks[ZG_MOST_DARTS];
@@ -203,8 +232,12 @@ static void add_levels(struct pyramid *p, unsigned levels, unsigned percent)
     memset(p->lambda, 0, p->darts);
     memset(p->delta, p->n, p->darts);
     memcpy(table, p->rows, len * sizeof *table);
-    while (p->h < levels) {
-        choose_cells(p, table, p->n - 1u - p->h % p->n, percent, marks);
+    while (p->h < f->levels) {
+        unsigned turn = p->h % p->n, removed = p->n - 1u - turn;
+        memset(marks, ZG_STAY, sizeof marks);
+        choose_cells(p, table, removed, f->percent, (uint8_t)removed, marks);
+        if (f->contracted)
+            choose_contracted(p, table, 1 + turn, f->percent, marks);
         zg_height r = plain_add(p->n, p->darts, p->h, p->rows, len, p->lambda, p->darts, p->delta, p->darts, marks,
                                 p->darts, table, len);
         if (r.refusal.number)
@@ -221,7 +254,7 @@ int make_pyramid(struct pyramid *p, const char *name)
             make_grid(f, p);
             if (f->shuffled)
                 shuffle_darts(p);
-            add_levels(p, f->levels, f->percent);
+            add_levels(p, f);
             return 1;
         }
     return 0;

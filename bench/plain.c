@@ -2,7 +2,7 @@
  *
  * What is done for speed: numbers 5 (of a base) and 8 are first tested without a branch for each entry, which the
  * compiler turns into vector code, and the place is sought only if there is one; a pyramid's darts are sorted by kernel
- * once, so that a level costs what it removes; a removal starts from the removed darts, in place. */
+ * once, so that a level costs what its kernel has; a removal starts from the kernel's darts, in place. */
 #include "plain.h"
 
 #include <stdbool.h>
@@ -63,9 +63,19 @@ static zg_refusal check_rows(unsigned n, unsigned darts, const uint16_t *rows)
     return RESULT(zg_refusal, 0);
 }
 
+/* A mark is a dimension below n, or ZG_CONTRACT and a dimension from 1 to n. n is at most 4, so the three low bits are
+ * the dimension of either kind. */
+static unsigned dimension_of(unsigned mark) { return mark & 7; }
+static bool contracts(unsigned mark) { return mark & ZG_CONTRACT; }
+static bool is_mark(unsigned n, uint8_t mark) { return (mark < n) | ((uint8_t)(mark - ZG_CONTRACT - 1) < n); }
+
+/* The lower of the two rows between which a walk passes a dart: a removed one goes between its dimension and the next,
+ * a contracted one between its dimension and the one before. */
+static unsigned lower_row(unsigned mark) { return contracts(mark) ? mark - ZG_CONTRACT - 1 : mark; }
+
 static bool marks_fit(unsigned n, unsigned h, uint8_t lambda, uint8_t delta)
 {
-    return (lambda < h && delta < n) || (lambda == h && delta == n);
+    return (lambda < h && is_mark(n, delta)) || (lambda == h && delta == n);
 }
 
 /* The first dart with marks that don't fit, or darts; again the place is sought only if there is one. */
@@ -73,7 +83,8 @@ static unsigned first_unfit(unsigned n, unsigned darts, unsigned h, const uint8_
 {
     uint8_t top = (uint8_t)h, dimension = (uint8_t)n, bad = 0;
     for (unsigned d = 0; d < darts; d++) {
-        uint8_t removed = (uint8_t)((lambda[d] < top) & (delta[d] < dimension));
+        uint8_t contracted = (uint8_t)(delta[d] - ZG_CONTRACT - 1) < dimension;
+        uint8_t removed = (uint8_t)((lambda[d] < top) & ((delta[d] < dimension) | contracted));
         uint8_t stays = (uint8_t)((lambda[d] == top) & (delta[d] == dimension));
         bad |= (uint8_t)((removed | stays) ^ 1);
     }
@@ -85,7 +96,7 @@ static unsigned first_unfit(unsigned n, unsigned darts, unsigned h, const uint8_
 
 /* ---------------------------------------------------------------- kernels */
 
-/* Lambda and Delta of a dart in one number: equal for two darts of one kernel and dimension. */
+/* Lambda and Delta of a dart in one number: equal for two darts of one kernel and mark. */
 static void join_marks(unsigned darts, const uint8_t *lambda, const uint8_t *delta, uint16_t *mark)
 {
     for (unsigned d = 0; d < darts; d++)
@@ -105,44 +116,83 @@ static void sort_by_kernel(unsigned darts, const uint16_t *mark, uint16_t *order
         order[next[mark[d] >> 8]++] = (uint16_t)d;
 }
 
+/* Where the rows of a mark begin: that of its dimension, the other that a walk passes by, and the one that must commute
+ * with it, ZG_MOST_ENTRIES if there is none. */
+struct way {
+    unsigned own, other, beyond;
+};
+enum { WAYS = 16 }; /* by the low bits of a mark */
+
+static void list_ways(unsigned n, unsigned darts, struct way *ways)
+{
+    for (unsigned k = 0; k < n; k++) {
+        unsigned beyond = k + 2 <= n ? (k + 2) * darts : ZG_MOST_ENTRIES;
+        ways[k] = (struct way){k * darts, (k + 1) * darts, beyond};
+        beyond = k >= 1 ? (k - 1) * darts : ZG_MOST_ENTRIES;
+        ways[ZG_CONTRACT + 1 + k] = (struct way){(k + 1) * darts, k * darts, beyond};
+    }
+}
+
 static zg_refusal check_kernel(unsigned n, unsigned darts, unsigned level, const uint16_t *table, const uint16_t *mark,
-                               const uint16_t *kernel, unsigned size)
+                               const uint16_t *kernel, unsigned size, const struct way *ways)
 {
     for (unsigned k = 0; k < size; k++) {
         unsigned d = kernel[k];
         uint16_t own = mark[d];
         const uint16_t *to = table + d;
         for (unsigned j = 0; j <= n; j++, to += darts)
-            if (UNLIKELY(mark[*to] != own) && j != (own & 255))
+            if (UNLIKELY(mark[*to] != own) && j != dimension_of(own))
                 return RESULT(zg_refusal, 9, level, j, d);
     }
     for (unsigned k = 0; k < size; k++) {
-        unsigned d = kernel[k], delta = mark[d] & 255;
-        if (delta + 2 > n)
+        unsigned d = kernel[k];
+        const struct way *w = ways + mark[d] % WAYS;
+        if (w->beyond == ZG_MOST_ENTRIES)
             continue;
-        const uint16_t *a = table + (delta + 1) * darts, *b = a + darts;
+        const uint16_t *a = table + w->other, *b = table + w->beyond;
         if (b[a[d]] != a[b[d]])
-            return RESULT(zg_refusal, 10, level, delta + 1, d);
+            return RESULT(zg_refusal, 10, level, w->other / darts, d);
     }
     return RESULT(zg_refusal, 0);
 }
 
-/* Walks run over entries of removed darts alone, so the survivors' entries can be set in place; those of removed darts
- * go when all walks have ended. */
+/* Cells are whole, so the row of its own dimension leads from a dart of a kernel to a survivor or to a dart of the
+ * kernel with the same dimension, removed or contracted. Joint marks of one kernel differ in their low byte alone. */
+static bool same_kernel(unsigned mark, unsigned other) { return (mark ^ other) < 256; }
+
+/* Where the walk goes on from a dart of the kernel whose kind is another than that of the darts passed. */
+__attribute__((noinline)) static unsigned walk_on(const uint16_t *table, const uint16_t *mark, const struct way *ways,
+                                                  unsigned met)
+{
+    unsigned own = mark[met];
+    const uint16_t *a = table + ways[own % WAYS].own;
+    for (unsigned kind = own; same_kernel(kind, own); kind = mark[met]) {
+        const uint16_t *b = table + ways[kind % WAYS].other;
+        do
+            met = a[b[met]];
+        while (mark[met] == kind);
+    }
+    return met;
+}
+
+/* Walks run over entries of the kernel's darts alone, so the survivors' entries can be set in place; those of the
+ * kernel's darts go when all walks have ended. */
 static void remove_kernel(unsigned n, unsigned darts, uint16_t *table, const uint16_t *mark, const uint16_t *kernel,
-                          unsigned size)
+                          unsigned size, const struct way *ways)
 {
     for (unsigned k = 0; k < size; k++) {
-        unsigned d = kernel[k];
-        uint16_t own = mark[d];
-        uint16_t *a = table + (own & 255) * darts, *b = a + darts;
-        unsigned survivor = a[d];
-        if (mark[survivor] == own)
+        unsigned met = kernel[k], own = mark[met];
+        const struct way *w = ways + own % WAYS;
+        uint16_t *a = table + w->own;
+        unsigned survivor = a[met];
+        if (same_kernel(mark[survivor], own))
             continue;
-        unsigned met = d;
+        const uint16_t *b = table + w->other;
         do
             met = a[b[met]];
         while (mark[met] == own);
+        if (UNLIKELY(same_kernel(mark[met], own)))
+            met = walk_on(table, mark, ways, met);
         a[survivor] = (uint16_t)met;
     }
     for (unsigned i = 0; i <= n; i++)
@@ -155,14 +205,16 @@ static zg_refusal climb(unsigned n, unsigned darts, unsigned h, const uint16_t *
 {
     uint16_t order[ZG_MOST_DARTS];
     unsigned start[35];
+    struct way ways[WAYS];
+    list_ways(n, darts, ways);
     sort_by_kernel(darts, mark, order, start);
     for (unsigned k = 0; k < h; k++) {
         const uint16_t *kernel = order + start[k];
         unsigned size = start[k + 1] - start[k];
-        zg_refusal r = check_kernel(n, darts, k, table, mark, kernel, size);
+        zg_refusal r = check_kernel(n, darts, k, table, mark, kernel, size, ways);
         if (r.number)
             return r;
-        remove_kernel(n, darts, table, mark, kernel, size);
+        remove_kernel(n, darts, table, mark, kernel, size, ways);
     }
     return RESULT(zg_refusal, 0);
 }
@@ -204,7 +256,7 @@ zg_refusal plain_check(uint8_t n, uint16_t darts, uint8_t h, const uint16_t *row
 static unsigned first_bad_mark(unsigned n, unsigned darts, unsigned h, const uint8_t *lambda, const uint8_t *marks)
 {
     unsigned d = 0;
-    while (d < darts && (marks[d] == ZG_STAY || (marks[d] < n && lambda[d] == h)))
+    while (d < darts && (marks[d] == ZG_STAY || (is_mark(n, marks[d]) && lambda[d] == h)))
         d++;
     return d;
 }
@@ -323,10 +375,11 @@ zg_link plain_read(uint8_t n, uint16_t darts, uint8_t h, const uint16_t *rows, s
             return RESULT(zg_link, .count = reads, .neighbour = (uint16_t)met, .since = (uint8_t)since);
         if (since <= lambda[met])
             since = lambda[met] + 1u;
-        if (delta[met] == t) {
+        unsigned low = lower_row(delta[met]);
+        if (low == t) {
             t++;
             row += darts;
-        } else if (delta[met] + 1u == t) {
+        } else if (low + 1 == t) {
             t--;
             row -= darts;
         } else
@@ -378,12 +431,13 @@ static unsigned read_level(struct question *q, unsigned l, unsigned i, unsigned 
         return read_base(q, i, from);
     unsigned met = read_level(q, l - 1, i, from);
     while (met != ZG_ABSENT && q->lambda[met] < l) {
-        if (q->lambda[met] != l - 1 || q->delta[met] != i)
+        unsigned mark = q->delta[met];
+        if (q->lambda[met] != l - 1 || dimension_of(mark) != i)
             return cannot_pass(q, met);
-        met = read_level(q, l - 1, i + 1, met);
+        met = read_level(q, l - 1, contracts(mark) ? i - 1 : i + 1, met);
         if (met == ZG_ABSENT)
             return ZG_ABSENT;
-        if (q->lambda[met] != l - 1 || q->delta[met] != i)
+        if (q->lambda[met] != l - 1 || q->delta[met] != mark)
             return cannot_pass(q, met);
         met = read_level(q, l - 1, i, met);
     }
@@ -395,13 +449,13 @@ static unsigned read_level_skipping(struct question *q, unsigned l, unsigned i, 
 {
     unsigned met = read_base(q, i, from);
     while (met != ZG_ABSENT && q->lambda[met] < l) {
-        unsigned k = q->lambda[met];
-        if (q->delta[met] != i)
+        unsigned k = q->lambda[met], mark = q->delta[met];
+        if (dimension_of(mark) != i)
             return cannot_pass(q, met);
-        met = read_level_skipping(q, k, i + 1, met);
+        met = read_level_skipping(q, k, contracts(mark) ? i - 1 : i + 1, met);
         if (met == ZG_ABSENT)
             return ZG_ABSENT;
-        if (q->lambda[met] != k || q->delta[met] != i)
+        if (q->lambda[met] != k || q->delta[met] != mark)
             return cannot_pass(q, met);
         met = read_level_skipping(q, k, i, met);
     }
@@ -460,13 +514,13 @@ __attribute__((noinline)) static zg_unfolding unfold_rows(unsigned n, unsigned d
                     const uint16_t *row = rows;
                     unsigned t = i, left = 2 * darts;
                     do {
-                        unsigned from = met;
+                        unsigned from = met, mark = delta[from];
                         if (since <= lambda[from])
                             since = lambda[from] + 1u;
-                        if (delta[from] == t) {
+                        if (mark == t || mark == t + ZG_CONTRACT + 1) {
                             t++;
                             row += darts;
-                        } else if (delta[from] + 1u == t) {
+                        } else if (mark + 1 == t || mark == t + ZG_CONTRACT) {
                             t--;
                             row -= darts;
                         } else

@@ -15,7 +15,7 @@ extern "C" {
  * belong together. Names, the order of arguments and the first field of every answer stay. MAJOR rises when a function
  * answers or is lent something else than before, MINOR when something is added, PATCH when neither is seen from here.
  */
-#define ZG_VERSION_MAJOR 2
+#define ZG_VERSION_MAJOR 3
 #define ZG_VERSION_MINOR 0
 #define ZG_VERSION_PATCH 0
 #define ZG_VERSION (ZG_VERSION_MAJOR * 65536 + ZG_VERSION_MINOR * 256 + ZG_VERSION_PATCH)
@@ -26,8 +26,9 @@ extern "C" {
 #define ZG_MOST_ENTRIES ((ZG_MOST_DIMENSION + 1) * ZG_MOST_DARTS) /* of rows, or of a table */
 #define ZG_MOST_RECORD 49180 /* bytes of the largest record */
 #define ZG_WORDS 64          /* survivor words */
-#define ZG_ABSENT 65535      /* every entry of a removed dart in an explicit level */
+#define ZG_ABSENT 65535      /* in an explicit level every entry of a dart that is removed or contracted */
 #define ZG_STAY 255          /* in a mark row: the dart stays */
+#define ZG_CONTRACT 8        /* in marks and delta: ZG_CONTRACT + d, 9 to 8+n, is a contraction of dimension d */
 
 /*
  * What is lent
@@ -36,10 +37,11 @@ extern "C" {
  *   darts    N, 1 to 4,096; darts are 0 to N-1
  *   h        height, 0 to 32; levels run 0 to h
  *   rows     the base: involutions a0 to an, row 0 first, (n+1)N entries
- *   lambda   for each dart the number of the kernel that removes it, h if none does: N entries
- *   delta    for each dart its dimension in that kernel, n if none removes it: N entries
- *   table    an explicit level, laid out as rows: (n+1)N entries; every entry of a removed dart is ZG_ABSENT
- *   marks    a mark row, N entries: below n, remove with that dimension; ZG_STAY, stay
+ *   lambda   for each dart the number of the kernel that removes or contracts it, h if none does: N entries
+ *   delta    for each dart its mark in that kernel, n if it is in none: N entries
+ *   table    an explicit level, laid out as rows: (n+1)N entries; those of darts that aren't on it are ZG_ABSENT
+ *   marks    a mark row, N entries: below n, remove with that dimension; 9 to 8+n, contract with dimension
+ *            mark - ZG_CONTRACT; ZG_STAY, stay
  *   words    survivor words, ZG_WORDS entries: dart d at bit d mod 64 of word d div 64
  *
  * Every length is in entries, not bytes, and must be exact (zg_take alone takes longer ones). A pointer must be aligned
@@ -70,11 +72,11 @@ enum zg_number {
     ZG_NOT_COMMUTING = 7,  /* a_i and a_j don't commute, j >= i+2 */
     ZG_MARKS = 8,          /* Lambda, Delta or mark not allowed */
     ZG_NOT_WHOLE = 9,      /* kernel isn't whole cells */
-    ZG_NOT_REMOVABLE = 10, /* cell not removable */
+    ZG_NOT_REMOVABLE = 10, /* cell to be removed is not removable, or cell to be contracted not contractible */
     ZG_NO_LEVEL = 11,      /* level above h */
     ZG_NO_DART = 12,       /* dart is N or more, or not on the level */
     ZG_NO_INVOLUTION = 13, /* involution above n; for marking, dimension n or more */
-    ZG_NO_PASS = 14,       /* walk meets a removed dart that it can't pass */
+    ZG_NO_PASS = 14,       /* walk meets a removed or contracted dart that it can't pass */
     ZG_TOO_LONG = 15,      /* walk needs more than 1 + 2N reads */
     ZG_ENDS_EARLY = 16,    /* record ends early */
     ZG_OTHER_TAG = 17,     /* other tag than due */
@@ -142,11 +144,11 @@ static inline const char *zg_refusal_text(uint16_t number)
         "two involutions do not commute",
         "a mark is not allowed",
         "a kernel is not made of whole cells",
-        "a cell is not removable",
+        "a cell is not removable or not contractible",
         "the level asked is above the height",
         "the dart asked is not on the level",
         "the involution or dimension asked is too large",
-        "a walk meets a removed dart that it cannot pass",
+        "a walk meets a removed or contracted dart that it cannot pass",
         "a walk needs more than 1 + 2N reads",
         "the record ends early",
         "the record has another tag than the one due",
@@ -170,7 +172,8 @@ zg_refusal zg_check_base(uint8_t n, uint16_t darts, const uint16_t *rows, size_t
  * Checks a whole pyramid. Lent to read: rows, (n+1)N; lambda, N; delta, N. Lent to write: table, (n+1)N.
  * Accepted: table holds the explicit level h.
  * Refused 1, 2, 3, 4, 5, 6, 7 (as zg_check_base), 8 (the dart), then for each kernel in rising order 9 (the kernel's
- * level, the involution that leaves the kernel, the dart) and 10 (the kernel's level, dimension + 1, the dart).
+ * level, the involution that leaves the kernel, the dart) and 10 (the kernel's level; dimension + 1 for a dart to be
+ * removed, dimension - 1 for one to be contracted; the dart).
  * After 9 or 10 table holds the explicit level whose kernel failed; after any other number it is untouched.
  */
 zg_refusal zg_check(uint8_t n, uint16_t darts, uint8_t h, const uint16_t *rows, size_t rows_len,
@@ -215,8 +218,8 @@ zg_link zg_read(uint8_t n, uint16_t darts, uint8_t h, const uint16_t *rows, size
 /*
  * The same question answered level by level, each step a reading one level lower, down to the base. Lent, returned
  * and refused as zg_read, with one difference: 14 is also given where a dart on the way isn't in the kernel below the
- * level being read with the dimension of the row walked by. Where it isn't refused 14, its fields are those of zg_read.
- * It has no since. It calls itself level + 1 deep.
+ * level being read with the dimension of the row walked by, or the second dart of a pass hasn't the mark of the first.
+ * Where it isn't refused 14, its fields are those of zg_read. It has no since. It calls itself level + 1 deep.
  */
 zg_reading zg_read_by_levels(uint8_t n, uint16_t darts, uint8_t h, const uint16_t *rows, size_t rows_len,
                              const uint8_t *lambda, size_t lambda_len, const uint8_t *delta, size_t delta_len,
@@ -254,8 +257,8 @@ zg_count zg_survivors(uint16_t darts, uint8_t h, const uint8_t *lambda, size_t l
                       uint64_t *words, size_t words_len);
 
 /*
- * Marks the removable cells of one dimension on an explicit level. Lent to read: table, (n+1)N. Lent to write:
- * marks, N.
+ * Marks the removable cells of one dimension, below n, on an explicit level; there is no marking for contraction. Lent
+ * to read: table, (n+1)N. Lent to write: marks, N.
  * Accepted: the darts of every removable cell of that dimension have it as their mark, all others ZG_STAY.
  * Refused 1, 2, 4, 13 (involution is the dimension asked), 5, 6, 7 (as zg_check_base, for darts that are present;
  * a dart is absent exactly where row 0 holds ZG_ABSENT, and 5 also names an absent dart with another entry).

@@ -1,7 +1,8 @@
 #!/usr/bin/env python3
-"""Makes the sample records: star.record (P8, P9) and voxels.record, a block of 3 x 3 x 9 voxels with a cavity of one
-voxel (dimension 3, 80 cubes of 48 darts), with 12 removals: on each level a seeded choice of the removable cells of one
-dimension, faces, edges and vertices in turn.   python3 make.py"""
+"""Makes the sample records: star.record (P8, P9); voxels.record, a block of 3 x 3 x 9 voxels with a cavity of one voxel
+(dimension 3, 80 cubes of 48 darts), with 12 removals: on each level a seeded choice of the removable cells of one
+dimension, faces, edges and vertices in turn; and pipe.record, a pipe of three rings of four blocks (dimension 3, 12
+cubes), with 4 kernels, each a seeded choice of faces to remove and of edges to contract.   python3 make.py"""
 import itertools, random
 
 
@@ -26,7 +27,8 @@ def cube_flags():
     return flags
 
 
-def voxels(size, holes):
+def voxels(size, holes=(), ring=False):
+    """Cubes in a grid, some left out; a ring is closed along the first axis."""
     flags = cube_flags()
     cells = [v for v in itertools.product(*map(range, size)) if v not in holes]
     number = {(v, f): k for k, (v, f) in enumerate(itertools.product(cells, flags))}
@@ -38,6 +40,8 @@ def voxels(size, holes):
         rows[2][d] = number[v, (corner, edge, 3 - edge - side)]
         step = 1 if corner[side] else -1
         w = tuple(x + step if a == side else x for a, x in enumerate(v))
+        if ring:
+            w = (w[0] % size[0],) + w[1:]
         across = tuple(1 - x if a == side else x for a, x in enumerate(corner))
         rows[3][d] = number.get((w, (across, edge, side)), d)
     return rows
@@ -59,36 +63,49 @@ def cells_of(a, n, here, delta):
     return cells
 
 
-def removable(a, n, delta, cell):
-    i, j = delta + 1, delta + 2
-    return j > n or all(a[j][a[i][d]] == a[i][a[j][d]] for d in cell)
+CONTRACT = 8
 
 
-def remove(a, n, here, marked):
+def rows_of(mark):
+    """The dimension, and the other row by which a dart of the mark is passed."""
+    return (mark - CONTRACT, mark - CONTRACT - 1) if mark > CONTRACT else (mark, mark + 1)
+
+
+def fits(a, n, mark, cell):
+    """Is the cell removable, or contractible?"""
+    i, j = rows_of(mark)
+    beyond = 2 * j - i
+    return not 0 <= beyond <= n or all(a[beyond][a[j][d]] == a[j][a[beyond][d]] for d in cell)
+
+
+def take_out(a, n, here, marked):
     left = [d for d in here if d not in marked]
     new = [row[:] for row in a]
     for i in range(n + 1):
         for d in left:
             e = a[i][d]
-            while marked.get(e) == i:
-                e = a[i][a[i + 1][e]]
+            while e in marked and rows_of(marked[e])[0] == i:
+                e = a[i][a[rows_of(marked[e])[1]][e]]
             new[i][d] = e
     return new, left
 
 
-def pyramid(rows, n, height, seed):
+def pyramid(rows, n, kernels, share, seed):
+    """For each kernel its marks are given: of the cells that fit a mark and meet no earlier one, one in so many."""
     rng = random.Random(seed)
     a, here = rows, list(range(len(rows[0])))
-    lam, dim = [height] * len(here), [n] * len(here)
-    for l in range(height):
-        delta = (n - 1) - l % n
-        good = [c for c in cells_of(a, n, here, delta) if removable(a, n, delta, c)]
-        some = rng.sample(good, (len(good) + 3) // 4)
-        marked = {d: delta for c in some for d in c}
+    lam, marks = [len(kernels)] * len(here), [n] * len(here)
+    for l, kernel in enumerate(kernels):
+        marked = {}
+        for mark in kernel:
+            cells = cells_of(a, n, here, rows_of(mark)[0])
+            good = [c for c in cells if fits(a, n, mark, c) and not any(d in marked for d in c)]
+            some = rng.sample(good, (len(good) + share - 1) // share)
+            marked.update((d, mark) for c in some for d in c)
         for d in marked:
-            lam[d], dim[d] = l, delta
-        a, here = remove(a, n, here, marked)
-    return lam, dim
+            lam[d], marks[d] = l, marked[d]
+        a, here = take_out(a, n, here, marked)
+    return lam, marks
 
 
 if __name__ == "__main__":
@@ -100,4 +117,8 @@ if __name__ == "__main__":
     marks = [1, 1, 0, 0, 1, 1, 2, 2, 0, 0, 2, 2], [0, 0, 1, 1, 0, 0, 2, 2, 1, 1, 2, 2]
     open("star.record", "wb").write(record(2, 2, star, marks))
     block = voxels((3, 3, 9), {(1, 1, 4)})
-    open("voxels.record", "wb").write(record(3, 12, block, pyramid(block, 3, 12, 1)))
+    faces_edges_vertices = [[2 - l % 3] for l in range(12)]
+    open("voxels.record", "wb").write(record(3, 12, block, pyramid(block, 3, faces_edges_vertices, 4, 1)))
+    pipe = voxels((4, 1, 3), ring=True)
+    faces_and_edges = [[2, CONTRACT + 1]] * 4
+    open("pipe.record", "wb").write(record(3, 4, pipe, pyramid(pipe, 3, faces_and_edges, 5, 1)))

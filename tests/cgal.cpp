@@ -1,4 +1,4 @@
-// Compares levels with CGAL's Generalized_map, which removes the same cells one by one.
+// Compares levels with CGAL's Generalized_map, which removes and contracts the same cells one by one.
 //
 // Compiled with -DWITH_LIBRARY the levels come from the library, else from the independent implementation.
 #include "maps.hpp"
@@ -11,11 +11,13 @@
 #include <cstdio>
 #include <cstdlib>
 #include <map>
+#include <type_traits>
 
 namespace {
 
 using independent::Bytes;
 using independent::Entries;
+using independent::Kind;
 using independent::Map;
 using maps::Cell;
 using maps::Pyramid;
@@ -111,25 +113,37 @@ public:
 
     bool valid() const { return gmap.is_valid(); }
 
-    bool removable(const Cell& cell) const
+    // CGAL's verdict: removable or contractible, as the cell is marked.
+    bool fits(const Cell& cell) const
     {
-        switch (cell.dimension) {
-        case 0: return removable<0>(cell);
-        case 1: return removable<1>(cell);
-        case 2: return removable<2>(cell);
-        default: return removable<3>(cell);
-        }
+        return with_dimension(cell, [&](auto i) {
+            const auto dart = handles[cell.darts[0]];
+            if constexpr (i < n)
+                if (kind(cell) == Kind::removal)
+                    return gmap.template is_removable<i>(dart);
+            if constexpr (i > 0)
+                if (kind(cell) == Kind::contraction)
+                    return gmap.template is_contractible<i>(dart);
+            return false;
+        });
     }
 
     // Whether CGAL's cell has our darts, each once.
     bool lists(const Cell& cell)
     {
-        switch (cell.dimension) {
-        case 0: return lists<0>(cell);
-        case 1: return lists<1>(cell);
-        case 2: return lists<2>(cell);
-        default: return lists<3>(cell);
-        }
+        std::vector<unsigned> there;
+        with_dimension(cell, [&](auto i) {
+            const auto mark = gmap.get_new_mark();
+            CGAL::GMap_dart_iterator_basic_of_cell<GMap, i> it(gmap, handles[cell.darts[0]], mark);
+            for (; it.cont(); ++it) {
+                there.push_back(numbers.at(it));
+                gmap.mark(it, mark);
+            }
+            gmap.free_mark(mark);
+            return true;
+        });
+        std::sort(there.begin(), there.end());
+        return there == cell.darts;
     }
 
     // Two involutions that commute take a dart of the cell to the same other dart. CGAL supposes that this doesn't
@@ -144,15 +158,21 @@ public:
         return false;
     }
 
-    // False if CGAL removes another number of darts.
-    bool remove(const Cell& cell)
+    // Removes or contracts the cell; false if other darts go.
+    bool take(const Cell& cell)
     {
-        switch (cell.dimension) {
-        case 0: return remove<0>(cell);
-        case 1: return remove<1>(cell);
-        case 2: return remove<2>(cell);
-        default: return remove<3>(cell);
-        }
+        for (const unsigned d : cell.darts)
+            numbers.erase(handles[d]);
+        return with_dimension(cell, [&](auto i) {
+            const auto dart = handles[cell.darts[0]];
+            if constexpr (i < n)
+                if (kind(cell) == Kind::removal)
+                    return gmap.template remove_cell<i>(dart) == cell.darts.size();
+            if constexpr (i > 0)
+                if (kind(cell) == Kind::contraction)
+                    return gmap.template contract_cell<i>(dart) == cell.darts.size();
+            return false;
+        });
     }
 
     Entries table()
@@ -165,36 +185,15 @@ public:
     }
 
 private:
-    template <unsigned i> bool removable(const Cell& cell) const
-    {
-        if constexpr (i < n)
-            return gmap.template is_removable<i>(handles[cell.darts[0]]);
-        else
-            return false;
-    }
+    static Kind kind(const Cell& cell) { return independent::mark_of(n, cell.mark).kind; }
 
-    template <unsigned i> bool lists(const Cell& cell)
+    // Calls something with the cell's dimension as a constant, for CGAL's templates.
+    template <unsigned i = 0, class What> static bool with_dimension(const Cell& cell, What what)
     {
-        std::vector<unsigned> there;
-        if constexpr (i < n) {
-            const auto mark = gmap.get_new_mark();
-            CGAL::GMap_dart_iterator_basic_of_cell<GMap, i> it(gmap, handles[cell.darts[0]], mark);
-            for (; it.cont(); ++it) {
-                there.push_back(numbers.at(it));
-                gmap.mark(it, mark);
-            }
-            gmap.free_mark(mark);
-        }
-        std::sort(there.begin(), there.end());
-        return there == cell.darts;
-    }
-
-    template <unsigned i> bool remove(const Cell& cell)
-    {
-        if constexpr (i < n) {
-            for (const unsigned d : cell.darts)
-                numbers.erase(handles[d]);
-            return gmap.template remove_cell<i>(handles[cell.darts[0]]) == cell.darts.size();
+        if constexpr (i <= n) {
+            if (independent::mark_of(n, cell.mark).dimension == i)
+                return what(std::integral_constant<unsigned, i>());
+            return with_dimension<i + 1>(cell, what);
         } else
             return false;
     }
@@ -207,8 +206,13 @@ private:
 
 // ---------------------------------------------------------------- the comparison
 
+struct Verdicts {
+    unsigned long fit = 0, others = 0;
+};
+
 struct Tally {
-    unsigned long pyramids = 0, levels = 0, removed = 0, removable = 0, not_removable = 0, left_out = 0, most_darts = 0;
+    unsigned long pyramids = 0, levels = 0, removed = 0, contracted = 0, left_out = 0, most_darts = 0;
+    Verdicts removable, contractible;
 };
 
 [[noreturn]] void differs(const char* what, const Pyramid& p)
@@ -227,11 +231,21 @@ Bytes marks_of(const Cell& cell, unsigned darts)
 {
     Bytes marks(darts, 255);
     for (const unsigned d : cell.darts)
-        marks[d] = std::uint8_t(cell.dimension);
+        marks[d] = std::uint8_t(cell.mark);
     return marks;
 }
 
-// The marking job and number 10 against CGAL's verdict on each cell.
+// Number 10 against CGAL's verdict on a cell.
+void compare_adding(const Pyramid& p, const Cell& cell, bool verdict)
+{
+    Pyramid higher = p;
+    Entries top(p.rows.size());
+    const unsigned number = add_level(higher, marks_of(cell, p.darts), top);
+    demand(number == (verdict ? 0 : 10), "number 10 for another cell", p);
+}
+
+// The marking job and number 10 against CGAL's verdicts: each cell to be removed by marking and some by adding, more of
+// the cells to be contracted by adding, since marking has none.
 template <unsigned n>
 void compare_verdicts(Random& r, const Pyramid& p, const Entries& table, const std::vector<Cell>& all,
                       const Twin<n>& twin, Tally& tally)
@@ -240,29 +254,30 @@ void compare_verdicts(Random& r, const Pyramid& p, const Entries& table, const s
     for (unsigned dimension = 0; dimension < n; dimension++)
         demand(mark_cells(p, table, dimension, marks[dimension]) == 0, "a level is refused by marking", p);
     for (const Cell& cell : all) {
-        const bool verdict = twin.removable(cell);
-        for (const unsigned d : cell.darts)
-            demand(marks[cell.dimension][d] == (verdict ? cell.dimension : 255), "another cell is removable", p);
-        (verdict ? tally.removable : tally.not_removable)++;
-        if (all.size() > 12 && !r.chance(10))
-            continue;
-        Pyramid higher = p;
-        Entries top(table.size());
-        const unsigned number = add_level(higher, marks_of(cell, p.darts), top);
-        demand(number == (verdict ? 0 : 10), "number 10 for another cell", p);
+        const bool verdict = twin.fits(cell), removal = cell.mark < n;
+        if (removal)
+            for (const unsigned d : cell.darts)
+                demand(marks[cell.mark][d] == (verdict ? cell.mark : 255), "another cell is removable", p);
+        const bool added = all.size() <= 24 || r.chance(removal ? 10 : 30);
+        if (added)
+            compare_adding(p, cell, verdict);
+        if (removal || added) {
+            Verdicts& of = removal ? tally.removable : tally.contractible;
+            (verdict ? of.fit : of.others)++;
+        }
     }
 }
 
-// Disjoint removable cells by CGAL's verdict, removed there in any order; returns their marks.
+// Disjoint cells that fit by CGAL's verdict, removed and contracted there in any order; returns their marks.
 template <unsigned n>
-Bytes remove_some(Random& r, const Pyramid& p, std::vector<Cell> all, Twin<n>& twin, Tally& tally)
+Bytes take_some(Random& r, const Pyramid& p, std::vector<Cell> all, Twin<n>& twin, Tally& tally)
 {
     const unsigned percent = r.between(3, 50);
     independent::Kernel kernel(p.darts, independent::stay);
     std::vector<Cell> chosen;
     r.shuffle(all);
     for (const Cell& cell : all)
-        if (r.chance(percent) && twin.removable(cell)) {
+        if (r.chance(percent) && twin.fits(cell)) {
             const bool same = twin.lists(cell);
             demand(same || twin.folded(cell), "a cell has other darts", p);
             tally.left_out += !same;
@@ -271,9 +286,9 @@ Bytes remove_some(Random& r, const Pyramid& p, std::vector<Cell> all, Twin<n>& t
         }
     r.shuffle(chosen);
     for (const Cell& cell : chosen) {
-        demand(twin.removable(cell) && twin.lists(cell), "a cell is no longer removable beside others", p);
-        demand(twin.remove(cell), "another cell was removed", p);
-        tally.removed++;
+        demand(twin.fits(cell) && twin.lists(cell), "a cell no longer fits beside others", p);
+        demand(twin.take(cell), "another cell was taken", p);
+        (cell.mark < n ? tally.removed : tally.contracted)++;
     }
     return Bytes(kernel.begin(), kernel.end());
 }
@@ -286,10 +301,11 @@ template <unsigned n> void compare_pyramid(Random& r, Tally& tally)
     Twin<n> twin(base);
     demand(twin.valid(), "CGAL finds the base not valid", p);
     std::vector<Entries> levels{twin.table()};
+    const maps::Kinds kinds = maps::random_kinds(r);
     for (unsigned height = r.between(1, 6); p.h < height;) {
-        const std::vector<Cell> all = maps::cells_to_remove(Map(n, p.darts, levels.back()));
-        compare_verdicts<n>(r, p, levels.back(), all, twin, tally);
-        const Bytes marks = remove_some<n>(r, p, all, twin, tally);
+        const Map top(n, p.darts, levels.back());
+        compare_verdicts<n>(r, p, levels.back(), maps::cells_to_mark(top, maps::Kinds::both), twin, tally);
+        const Bytes marks = take_some<n>(r, p, maps::cells_to_mark(top, kinds), twin, tally);
         Entries table(p.rows.size());
         demand(add_level(p, marks, table) == 0, "a kernel is refused", p);
         levels.push_back(twin.table());
@@ -320,9 +336,10 @@ int main(int argc, char** argv)
         case 3: compare_pyramid<3>(r, tally); break;
         default: compare_pyramid<4>(r, tally);
         }
-    std::printf("%lu pyramids of dimension 2 to 4 (to %lu darts), %lu levels, %lu cells removed, verdicts on %lu "
-                "removable and %lu other cells, %lu folded cells left out: 0 differences\n",
-                tally.pyramids, tally.most_darts, tally.levels, tally.removed, tally.removable, tally.not_removable,
-                tally.left_out);
+    std::printf("%lu pyramids of dimension 2 to 4 (to %lu darts), %lu levels, %lu cells removed and %lu contracted, "
+                "verdicts on %lu removable and %lu other cells, %lu contractible and %lu other cells, %lu folded cells "
+                "left out: 0 differences\n",
+                tally.pyramids, tally.most_darts, tally.levels, tally.removed, tally.contracted, tally.removable.fit,
+                tally.removable.others, tally.contractible.fit, tally.contractible.others, tally.left_out);
     return 0;
 }

@@ -29,7 +29,7 @@ const std::vector<unsigned> possible[JOBS] = {
 
 struct Tally {
     unsigned long seen[JOBS][numbers] = {};
-    unsigned long large = 0, high = 0;
+    unsigned long large = 0, high = 0, contracting = 0, mixing = 0;
     unsigned most_darts = 0, most_height = 0;
 
     void count(const Case& c, const Answer& a, const Pyramid& source)
@@ -41,6 +41,9 @@ struct Tally {
         seen[c.what][number]++;
         large += source.darts >= 1000;
         high += source.h > 8;
+        const bool contracts = has(source, independent::Kind::contraction);
+        contracting += contracts;
+        mixing += contracts && has(source, independent::Kind::removal);
         most_darts = std::max(most_darts, source.darts);
         most_height = std::max(most_height, source.h);
     }
@@ -55,8 +58,15 @@ struct Tally {
             for (unsigned x = 0; x < numbers; x++)
                 seen[j][x] ? std::printf(" %6lu", seen[j][x]) : std::printf("      .");
         }
-        std::printf("\nfrom pyramids of 1,000 darts or more: %lu (largest %u); higher than 8: %lu (highest %u)\n",
-                    large, most_darts, high, most_height);
+        std::printf("\nfrom pyramids of 1,000 darts or more: %lu (largest %u); higher than 8: %lu (highest %u); with "
+                    "contractions: %lu, %lu of them with removals too\n",
+                    large, most_darts, high, most_height, contracting, mixing);
+    }
+
+    static bool has(const Pyramid& p, independent::Kind kind)
+    {
+        return std::any_of(p.delta.begin(), p.delta.end(),
+                           [&](unsigned byte) { return independent::mark_of(p.n, byte).kind == kind; });
     }
 
     // Names the refusals that never occurred.

@@ -92,13 +92,22 @@ inline Groups cells(const Map& m, unsigned i)
     return g;
 }
 
-// The removal test of one dart in a cell of dimension delta.
-inline bool passes(const Map& m, unsigned delta, unsigned d)
+// Whether going by one row and then by the other ends at the same place as in the other order.
+inline bool commute_at(const Map& m, unsigned i, unsigned j, unsigned d)
 {
-    if (delta + 2 > m.n)
-        return true;
-    const auto &next = m.a[delta + 1], &second = m.a[delta + 2];
-    return second[next[d]] == next[second[d]];
+    return m.a[j][m.a[i][d]] == m.a[i][m.a[j][d]];
+}
+
+// The removal test of one dart in a cell of dimension delta, 0 to n-1.
+inline bool removable_at(const Map& m, unsigned delta, unsigned d)
+{
+    return delta == m.n - 1 || commute_at(m, delta + 1, delta + 2, d);
+}
+
+// The contraction test of one dart in a cell of dimension delta, 1 to n.
+inline bool contractible_at(const Map& m, unsigned delta, unsigned d)
+{
+    return delta == 1 || commute_at(m, delta - 1, delta - 2, d);
 }
 
 inline void demand_neighbours_in_base(const Map& m)
@@ -132,41 +141,75 @@ inline void demand_commuting(const Map& m)
         for (unsigned j = i + 2; j <= m.n; j++)
             for (unsigned d = 0; d < m.darts; d++)
                 if (m.present(d))
-                    demand(m.a[j][m.a[i][d]] == m.a[i][m.a[j][d]], 7, 0, i, d);
+                    demand(commute_at(m, i, j, d), 7, 0, i, d);
 }
 
-// ---------------------------------------------------------------- kernels and removal
+// ---------------------------------------------------------------- marks
 
-// For each dart the dimension of its removal, or `stay`.
+enum class Kind { none, removal, contraction };
+
+// What a byte of a mark row or of Delta says of a dart.
+struct Mark {
+    Kind kind = Kind::none;
+    unsigned dimension = 0;
+
+    explicit operator bool() const { return kind != Kind::none; }
+
+    // The row that a walk passes the dart by, beside that of its dimension.
+    unsigned other_row() const { return kind == Kind::removal ? dimension + 1 : dimension - 1; }
+};
+
+constexpr unsigned contracted = 8; // what a contraction's dimension is stored above
+
+inline Mark mark_of(unsigned n, unsigned byte)
+{
+    for (unsigned delta = 0; delta < n; delta++)
+        if (byte == delta)
+            return {Kind::removal, delta};
+    for (unsigned delta = 1; delta <= n; delta++)
+        if (byte == contracted + delta)
+            return {Kind::contraction, delta};
+    return {};
+}
+
+inline bool fits_at(const Map& m, Mark mark, unsigned d)
+{
+    return mark.kind == Kind::removal ? removable_at(m, mark.dimension, d) : contractible_at(m, mark.dimension, d);
+}
+
+// ---------------------------------------------------------------- kernels, and what is left of a level
+
+// For each dart its mark as a byte, or `stay`.
 using Kernel = std::vector<unsigned>;
 
 inline void demand_whole_cells(const Map& m, const Kernel& kernel, unsigned level)
 {
     for (unsigned d = 0; d < m.darts; d++)
         for (unsigned j = 0; kernel[d] != stay && j <= m.n; j++)
-            if (j != kernel[d])
+            if (j != mark_of(m.n, kernel[d]).dimension)
                 demand(kernel[m.a[j][d]] == kernel[d], 9, level, j, d);
 }
 
-inline void demand_removable(const Map& m, const Kernel& kernel, unsigned level)
+inline void demand_fitting_cells(const Map& m, const Kernel& kernel, unsigned level)
 {
     for (unsigned d = 0; d < m.darts; d++)
-        if (kernel[d] != stay)
-            demand(passes(m, kernel[d], d), 10, level, kernel[d] + 1, d);
+        if (const Mark mark = mark_of(m.n, kernel[d]))
+            demand(fits_at(m, mark, d), 10, level, mark.other_row(), d);
 }
 
-// The new a_i. Going by a_i from a survivor and on by a_(i+1) and a_i in turn over darts marked i never branches. So
-// the darts so connected form chains, and the survivors at the ends of a chain are neighbours; a survivor that is
-// alone in its chain is free.
+// The new a_i. Going by a_i from a survivor, and over darts of dimension i on by a_(i+1), if removed, or a_(i-1), if
+// contracted, and by a_i in turn, never branches. So the darts so connected form chains, and the survivors at the ends
+// of a chain are neighbours; a survivor that is alone in its chain is free.
 inline void reduce_row(const Map& m, const Kernel& kernel, unsigned i, Map& next)
 {
     Groups chains(m.darts);
     for (unsigned d = 0; d < m.darts; d++) {
-        if (!m.present(d) || (kernel[d] != stay && kernel[d] != i))
+        const Mark mark = mark_of(m.n, kernel[d]);
+        if (!m.present(d) || (mark && mark.dimension != i))
             continue;
         chains.join(d, m.a[i][d]);
-        if (kernel[d] == i)
-            chains.join(d, m.a[i + 1][d]);
+        if (mark)
+            chains.join(d, m.a[mark.other_row()][d]);
     }
     std::vector<unsigned> first(m.darts, none), last(m.darts, none); // survivors of a chain
     for (unsigned d = 0; d < m.darts; d++) {
@@ -197,7 +240,7 @@ inline Map reduce(const Map& m, const Kernel& kernel)
 
 inline bool marks_fit(unsigned n, unsigned h, unsigned lambda, unsigned delta)
 {
-    return lambda < h ? delta < n : lambda == h && delta == n;
+    return lambda < h ? bool(mark_of(n, delta)) : lambda == h && delta == n;
 }
 
 inline void demand_folded(unsigned n, unsigned darts, unsigned h, const Bytes& lambda, const Bytes& delta,
@@ -221,7 +264,7 @@ inline Map climb(const Map& m, const Kernel& kernel, unsigned level, Entries& ta
 {
     m.write(table);
     demand_whole_cells(m, kernel, level);
-    demand_removable(m, kernel, level);
+    demand_fitting_cells(m, kernel, level);
     return reduce(m, kernel);
 }
 
@@ -274,7 +317,7 @@ inline void check(unsigned n, unsigned darts, unsigned h, const Entries& rows, c
 inline void demand_mark_row(unsigned n, unsigned darts, unsigned h, const Bytes& lambda, const Bytes& marks)
 {
     for (unsigned d = 0; d < darts; d++)
-        demand(marks[d] == stay || (marks[d] < n && lambda[d] == h), 8, h, 0, d);
+        demand(marks[d] == stay || (mark_of(n, marks[d]) && lambda[d] == h), 8, h, 0, d);
 }
 
 // Returns the new height.
@@ -347,10 +390,11 @@ public:
         unsigned met = read(t, dart), since = 0;
         while (lambda[met] < level) {
             since = std::max(since, lambda[met] + 1u);
-            if (delta[met] == t)
-                t = t + 1;
-            else if (delta[met] + 1u == t)
-                t = t - 1;
+            const Mark mark = mark_of(n, delta[met]);
+            if (t == mark.dimension)
+                t = mark.other_row();
+            else if (t == mark.other_row())
+                t = mark.dimension;
             else
                 refuse_passing(met);
             met = read(t, met);
@@ -385,18 +429,16 @@ private:
             return read(i, from);
         unsigned met = on_level(l - 1, i, from);
         while (lambda[met] < l) {
-            demand_in_kernel(l - 1, i, met);
-            met = on_level(l - 1, i + 1, met);
-            demand_in_kernel(l - 1, i, met);
-            met = on_level(l - 1, i, met);
+            const unsigned first = met;
+            const Mark mark = mark_of(n, delta[first]);
+            if (lambda[first] != l - 1 || mark.dimension != i)
+                refuse_passing(first);
+            const unsigned second = on_level(l - 1, mark.other_row(), first);
+            if (lambda[second] != lambda[first] || delta[second] != delta[first])
+                refuse_passing(second);
+            met = on_level(l - 1, i, second);
         }
         return met;
-    }
-
-    void demand_in_kernel(unsigned kernel, unsigned dimension, unsigned met) const
-    {
-        if (lambda[met] != kernel || delta[met] != dimension)
-            refuse_passing(met);
     }
 
     const unsigned n, darts, h;
@@ -501,7 +543,7 @@ inline void mark(unsigned n, unsigned darts, const Entries& table, unsigned dime
     Groups cell = cells(m, dimension);
     std::vector<bool> stays(darts, false);
     for (unsigned d = 0; d < darts; d++)
-        if (!m.present(d) || !passes(m, dimension, d))
+        if (!m.present(d) || !removable_at(m, dimension, d))
             stays[cell.find(d)] = true;
     for (unsigned d = 0; d < darts; d++)
         out[d] = std::uint8_t(stays[cell.find(d)] ? stay : dimension);

@@ -296,18 +296,40 @@ inline Map random_map(Random& r, unsigned n, unsigned most_darts)
 
 // ---------------------------------------------------------------- pyramids
 
+// Which marks a pyramid has.
+enum class Kinds { removals, contractions, both };
+
+inline Kinds random_kinds(Random& r)
+{
+    return r.pick({Kinds::removals, Kinds::contractions, Kinds::both, Kinds::both});
+}
+
+// The bytes that are marks of these kinds, of all dimensions.
+inline std::vector<unsigned> all_marks(unsigned n, Kinds kinds)
+{
+    std::vector<unsigned> all;
+    for (unsigned k = 0; k < n; k++) {
+        if (kinds != Kinds::contractions)
+            all.push_back(k);
+        if (kinds != Kinds::removals)
+            all.push_back(independent::contracted + 1 + k);
+    }
+    return all;
+}
+
+// A cell that could be removed or contracted with its mark.
 struct Cell {
-    unsigned dimension;
-    bool removable;
+    unsigned mark;
+    bool fits; // removable or contractible, as it is marked
     std::vector<unsigned> darts;
 };
 
-// All cells of dimension 0 to n-1.
-inline std::vector<Cell> cells_to_remove(const Map& m)
+inline std::vector<Cell> cells_to_mark(const Map& m, Kinds kinds)
 {
     std::vector<Cell> all;
-    for (unsigned dimension = 0; dimension < m.n; dimension++) {
-        independent::Groups g = independent::cells(m, dimension);
+    for (const unsigned byte : all_marks(m.n, kinds)) {
+        const independent::Mark mark = independent::mark_of(m.n, byte);
+        independent::Groups g = independent::cells(m, mark.dimension);
         std::vector<unsigned> at(m.darts, none);
         for (unsigned d = 0; d < m.darts; d++) {
             if (!m.present(d))
@@ -315,10 +337,10 @@ inline std::vector<Cell> cells_to_remove(const Map& m)
             unsigned& place = at[g.find(d)];
             if (place == none) {
                 place = unsigned(all.size());
-                all.push_back({dimension, true, {}});
+                all.push_back({byte, true, {}});
             }
             all[place].darts.push_back(d);
-            all[place].removable = all[place].removable && independent::passes(m, dimension, d);
+            all[place].fits = all[place].fits && independent::fits_at(m, mark, d);
         }
     }
     return all;
@@ -330,28 +352,28 @@ inline bool put(Kernel& kernel, const Cell& cell)
         if (kernel[d] != stay)
             return false;
     for (const unsigned d : cell.darts)
-        kernel[d] = cell.dimension;
+        kernel[d] = cell.mark;
     return true;
 }
 
-// Disjoint removable cells, each taken with the chance given.
-inline Kernel random_kernel(Random& r, const Map& m, unsigned percent)
+// Disjoint cells that fit, each taken with the chance given.
+inline Kernel random_kernel(Random& r, const Map& m, Kinds kinds, unsigned percent)
 {
     Kernel kernel(m.darts, stay);
-    auto all = cells_to_remove(m);
+    auto all = cells_to_mark(m, kinds);
     r.shuffle(all);
     for (const auto& cell : all)
-        if (cell.removable && r.chance(percent))
+        if (cell.fits && r.chance(percent))
             put(kernel, cell);
     return kernel;
 }
 
-// A kernel of whole cells, at least one of them not removable; false if the map has none.
-inline bool bad_kernel(Random& r, const Map& m, Kernel& kernel)
+// A kernel of whole cells, at least one of which doesn't fit; false if the map has none.
+inline bool bad_kernel(Random& r, const Map& m, Kinds kinds, Kernel& kernel)
 {
-    auto all = cells_to_remove(m);
+    auto all = cells_to_mark(m, kinds);
     r.shuffle(all);
-    const auto bad = std::find_if(all.begin(), all.end(), [](const Cell& c) { return !c.removable; });
+    const auto bad = std::find_if(all.begin(), all.end(), [](const Cell& c) { return !c.fits; });
     if (bad == all.end())
         return false;
     kernel.assign(m.darts, stay);
@@ -395,8 +417,9 @@ inline void put_on_top(Pyramid& p, const Kernel& kernel)
 inline Pyramid random_pyramid(Random& r, unsigned n, unsigned most_darts, unsigned height, unsigned percent)
 {
     Pyramid p = begin(random_map(r, n, most_darts));
+    const Kinds kinds = random_kinds(r);
     while (p.h < height) {
-        const Kernel kernel = random_kernel(r, p.levels.back(), percent);
+        const Kernel kernel = random_kernel(r, p.levels.back(), kinds, percent);
         put_on_top(p, kernel);
         p.levels.push_back(independent::reduce(p.levels.back(), kernel));
     }

@@ -12,18 +12,25 @@ using maps::Random;
 
 // ---------------------------------------------------------------- what the cases are made from
 
-// Puts on top a kernel of whole cells that can't all be removed, and above it marks that mean nothing.
+inline unsigned random_mark(Random& r, unsigned n, maps::Kinds kinds)
+{
+    const auto all = maps::all_marks(n, kinds);
+    return all[r.below(all.size())];
+}
+
+// Puts on top a kernel of whole cells that don't all fit, and above it marks that mean nothing.
 inline void spoil_top(Random& r, Pyramid& p)
 {
     independent::Kernel kernel;
-    if (p.h >= 32 || !maps::bad_kernel(r, p.levels.back(), kernel))
+    const maps::Kinds kinds = maps::random_kinds(r);
+    if (p.h >= 32 || !maps::bad_kernel(r, p.levels.back(), kinds, kernel))
         return;
     maps::put_on_top(p, kernel);
     const unsigned extra = r.below(std::min(4u, 33 - p.h));
     for (unsigned d = 0; d < p.darts; d++)
         if (p.lambda[d] == p.h) {
             p.lambda[d] = std::uint8_t(p.h + r.below(extra + 1));
-            p.delta[d] = std::uint8_t(p.lambda[d] == p.h + extra ? p.n : r.below(p.n));
+            p.delta[d] = std::uint8_t(p.lambda[d] == p.h + extra ? p.n : random_mark(r, p.n, kinds));
         }
     p.h += extra;
 }
@@ -40,6 +47,7 @@ inline Pyramid wild(Random& r, unsigned n, unsigned darts, unsigned h)
     const unsigned moved = p.levels[0].present(0) ? r.pick({0u, 2u, 5u}) : r.pick({30u, 60u, 100u});
     const unsigned kernels = h && r.chance(40) ? 1 : h, dimensions = r.chance(60) ? 1 : n;
     const unsigned removed = r.pick({50u, 70u, 90u});
+    const maps::Kinds kinds = maps::random_kinds(r);
     for (unsigned k = 0; k < p.rows.size(); k++)
         if (r.chance(moved))
             p.rows[k] = std::uint16_t(r.below(p.darts));
@@ -48,11 +56,24 @@ inline Pyramid wild(Random& r, unsigned n, unsigned darts, unsigned h)
     for (unsigned d = 0; d < p.darts; d++) {
         const bool stays = h == 0 || !r.chance(removed);
         p.lambda[d] = std::uint8_t(stays ? h : r.below(kernels));
-        p.delta[d] = std::uint8_t(stays ? n : r.below(dimensions));
+        p.delta[d] = std::uint8_t(stays ? n : random_mark(r, dimensions, kinds));
     }
     p.h = h;
     p.levels.clear();
     return p;
+}
+
+// The rows in the other order, with removals as contractions: the same walks.
+inline void turn_over(Pyramid& p)
+{
+    for (unsigned i = 0; 2 * i < p.n; i++)
+        std::swap_ranges(p.rows.begin() + i * p.darts, p.rows.begin() + (i + 1) * p.darts,
+                         p.rows.begin() + (p.n - i) * p.darts);
+    for (unsigned d = 0; d < p.darts; d++)
+        if (const auto mark = independent::mark_of(p.n, p.delta[d]); mark.kind == independent::Kind::removal)
+            p.delta[d] = std::uint8_t(independent::contracted + p.n - mark.dimension);
+        else if (mark.kind == independent::Kind::contraction)
+            p.delta[d] = std::uint8_t(p.n - mark.dimension);
 }
 
 // A walk that comes to one detour from two sides: from a dart y it leads back to y, from w to y too. By levels this is
@@ -79,6 +100,8 @@ inline Pyramid knot(Random& r, unsigned n, unsigned h)
     p.lambda[0] = std::uint8_t(p.h);
     p.lambda[r.chance(50) ? y : w]++;
     p.levels.clear();
+    if (r.chance(50))
+        turn_over(p);
     return p;
 }
 
@@ -176,22 +199,34 @@ inline void damage_rows(Random& r, Entries& rows, unsigned darts)
     }
 }
 
+// A byte of Delta or of a mark row, most of them marks; the others are the last and the first beside them.
+inline std::uint8_t likely_mark(Random& r, unsigned n)
+{
+    if (r.chance(20))
+        return std::uint8_t(r.pick({n, 8u, 9u, 8 + n, 9 + n}));
+    return std::uint8_t(r.chance(50) ? r.below(n + 1) : independent::contracted + r.between(1, n + 1));
+}
+
 inline void damage_marks(Random& r, Case& c, Bytes& list)
 {
     if (list.empty())
         return;
     const std::size_t d = r.below(list.size());
     const std::size_t e = r.below(std::min(c.lambda.size(), c.delta.size()) + 1);
-    switch (r.below(7)) {
+    switch (r.below(8)) {
     case 0: list[d] = std::uint8_t(r.bits()); break;
     case 1: list[d] = std::uint8_t(r.pick({c.h, c.h + 1, c.n, c.n + 1, c.n - 1})); break;
     case 2: list[d] = r.pick({std::uint8_t(255), std::uint8_t(254), std::uint8_t(33)}); break;
-    case 3: list[d] = std::uint8_t(r.below(c.n + 1)); break;
+    case 3: list[d] = likely_mark(r, c.n); break;
     case 4: list[d] = list[r.below(list.size())]; break;
+    case 5: // a cell of which one dart is removed and another contracted
+        if (list[d] != c.n && list[d] < 9 + c.n)
+            list[d] = std::uint8_t(list[d] ^ independent::contracted);
+        break;
     default: // the marks of one dart to another, both fitting each other
         if (d < c.lambda.size() && d < c.delta.size() && e < c.lambda.size() && e < c.delta.size()) {
             c.lambda[d] = c.lambda[e];
-            c.delta[d] = r.chance(70) ? c.delta[e] : std::uint8_t(r.below(c.n + 1));
+            c.delta[d] = r.chance(70) ? c.delta[e] : likely_mark(r, c.n);
         }
     }
 }
@@ -227,7 +262,7 @@ inline void damage_item(Random& r, Case& c, char item)
     case 'D': change_size(r, c, item); break;
     case 'h': c.h = r.pick({0u, (c.h - 1) & 255, (c.h + 1) & 255, 31u, 32u, 33u, 255u}); break;
     case 'l': c.level = r.pick({0u, c.h, (c.h + 1) & 255, 255u, r.below(256)}); break;
-    case 'i': c.involution = r.pick({c.n, (c.n + 1) & 255, 255u, r.below(6)}); break;
+    case 'i': c.involution = r.pick({c.n, (c.n + 1) & 255, 255u, r.below(6), 8 + r.below(6)}); break;
     case 'd': c.dart = r.pick({c.darts, (c.darts - 1) & 65535, 65535u, r.below(c.darts + 1)}); break;
     case 'R': r.chance(15) ? change_length(r, c.rows) : damage_rows(r, c.rows, c.darts); break;
     case 'T': r.chance(c.what == MARK ? 15 : 80) ? change_length(r, c.table) : damage_rows(r, c.table, c.darts); break;
@@ -252,9 +287,22 @@ inline void damage_many(Random& r, Case& c)
                 damage_marks(r, c, r.chance(50) ? c.lambda : c.delta);
             break;
         case 2: c.rows[r.below(c.rows.size())] = std::uint16_t(r.below(c.darts)); break;
-        case 3: c.delta[d] = std::uint8_t(c.lambda[d] < c.h ? r.below(c.n) : c.n); break;
+        case 3:
+            c.delta[d] = std::uint8_t(c.lambda[d] < c.h ? random_mark(r, c.n, maps::Kinds::both) : c.n);
+            break;
         default: link_others(r, c.rows, c.darts);
         }
+    }
+}
+
+// Some darts of the other kind with the same dimension: a pass may come from a removed dart to a contracted one.
+inline void change_kinds(Random& r, Case& c)
+{
+    const auto is_mark = [&](unsigned byte) { return bool(independent::mark_of(c.n, byte)); };
+    for (std::size_t d = 0; d < c.delta.size(); d++) {
+        const unsigned other = c.delta[d] ^ independent::contracted;
+        if (c.lambda[d] < c.h && is_mark(c.delta[d]) && is_mark(other) && r.chance(25))
+            c.delta[d] = std::uint8_t(other);
     }
 }
 
@@ -262,7 +310,9 @@ inline void damage_many(Random& r, Case& c)
 // then it may go round and round.
 inline void damage_walks(Random& r, Case& c)
 {
-    if (r.chance(50))
+    if (r.chance(20))
+        change_kinds(r, c);
+    else if (r.chance(50))
         damage_many(r, c);
     else
         for (unsigned times = r.between(1, 2); times; times--)

@@ -1,14 +1,27 @@
 //! Levels, dimensions, and what the jobs answer.
-use crate::raw;
+use crate::{raw, CONTRACT};
 use std::fmt;
 
 /// A level, a height or a Λ: 0 to 32.
 #[derive(Clone, Copy, Debug, PartialEq, Eq, PartialOrd, Ord, Hash)]
 pub struct Level(pub u8);
 
-/// A dimension, an involution or a Δ: 0 to 4.
+/// A dimension or an involution: 0 to 4.
 #[derive(Clone, Copy, Debug, PartialEq, Eq, PartialOrd, Ord, Hash)]
 pub struct Dimension(pub u8);
+
+/// The two marks of a dimension, as they stand in mark rows and in Δ.
+impl Dimension {
+    /// The mark of a dart that is removed with this dimension, below n: the dimension itself.
+    pub const fn removed(self) -> u8 {
+        self.0
+    }
+
+    /// The mark of a dart that is contracted with this dimension, 1 to n: 9 to 8 + n.
+    pub const fn contracted(self) -> u8 {
+        CONTRACT.saturating_add(self.0)
+    }
+}
 
 /// Why a job is refused. A field that says nothing is 0; in records the byte offset stands in place of the dart.
 #[derive(Clone, Copy, Debug, PartialEq, Eq, Hash)]
@@ -31,11 +44,11 @@ const TEXTS: [&str; 21] = [
     "two involutions do not commute",
     "a mark is not allowed",
     "a kernel is not made of whole cells",
-    "a cell is not removable",
+    "a cell is not removable or not contractible",
     "the level asked is above the height",
     "the dart asked is not on the level",
     "the involution or dimension asked is too large",
-    "a walk meets a removed dart that it cannot pass",
+    "a walk meets a removed or contracted dart that it cannot pass",
     "a walk needs more than 1 + 2N reads",
     "the record ends early",
     "the record has another tag than the one due",

@@ -44,7 +44,10 @@ pub use pyramid::Pyramid;
 /// In a mark row: the dart stays.
 pub const STAY: u8 = 255;
 
-/// Every entry of a removed dart in an explicit level.
+/// In a mark row and in Δ: a contraction is stored as this and its dimension ([`Dimension::contracted`]).
+pub const CONTRACT: u8 = 8;
+
+/// In an explicit level every entry of a dart that is removed or contracted.
 pub const ABSENT: u16 = 65_535;
 
 /// The largest N.
@@ -76,7 +79,7 @@ pub fn check_base(n: Dimension, darts: u16, rows: &[u16]) -> Result<(), Refusal>
 }
 
 /// Adds a level on top, with the marks as kernel h: the new height. Λ and Δ grow with it, and the table holds the new
-/// top level.
+/// top level. A mark is [`Dimension::removed`] or [`Dimension::contracted`] of a dimension, or [`STAY`].
 #[allow(clippy::too_many_arguments)]
 pub fn add(
     n: Dimension,
@@ -189,7 +192,8 @@ pub fn survivors(
     answer.accepted().map(|r| r.count)
 }
 
-/// Marks the removable cells of one dimension on an explicit level; all other darts get [`STAY`].
+/// Marks the removable cells of one dimension, below n, on an explicit level; all other darts get [`STAY`]. There is no
+/// marking for contraction.
 pub fn mark_cells(
     n: Dimension,
     darts: u16,

@@ -15,7 +15,7 @@ pub struct PyramidBuf {
 }
 
 impl PyramidBuf {
-    /// A base that is checked, of height 0: no dart is removed.
+    /// A base that is checked, of height 0: no dart is removed or contracted.
     pub fn from_base(n: Dimension, darts: u16, rows: Vec<u16>) -> Result<PyramidBuf, Refusal> {
         check_base(n, darts, &rows)?;
         Ok(PyramidBuf {

@@ -1,6 +1,8 @@
 //! Phrases, version and largest sizes are those of include/zompelgors.h.
 use std::{fs, path::Path};
-use zompelgors::{version, Refusal, ABSENT, MOST_DARTS, MOST_LEVELS, MOST_RECORD, STAY, WORDS};
+use zompelgors::{
+    version, Refusal, ABSENT, CONTRACT, MOST_DARTS, MOST_LEVELS, MOST_RECORD, STAY, WORDS,
+};
 
 fn header() -> String {
     let path = Path::new(env!("CARGO_MANIFEST_DIR")).join("../include/zompelgors.h");
@@ -59,4 +61,5 @@ fn sizes() {
     assert_eq!(defined("ZG_WORDS"), WORDS);
     assert_eq!(defined("ZG_ABSENT"), usize::from(ABSENT));
     assert_eq!(defined("ZG_STAY"), usize::from(STAY));
+    assert_eq!(defined("ZG_CONTRACT"), usize::from(CONTRACT));
 }

@@ -1,10 +1,16 @@
-//! Records taken through the binding: the star's, whole and cut short.
+//! Records taken through the binding: the star's, whole and cut short, and the pipe's.
 use std::{fs, path::Path};
-use zompelgors::{take, Dimension, Header, Level, Pyramid, PyramidBuf, Refusal, MOST_RECORD};
+use zompelgors::{
+    take, Dimension, Header, Level, Pyramid, PyramidBuf, Refusal, MOST_RECORD, WORDS,
+};
 
 fn sample() -> Vec<u8> {
-    let path = Path::new(env!("CARGO_MANIFEST_DIR")).join("../samples/star.record");
-    fs::read(path).expect("samples/star.record")
+    record("star")
+}
+
+fn record(name: &str) -> Vec<u8> {
+    let path = Path::new(env!("CARGO_MANIFEST_DIR")).join(format!("../samples/{name}.record"));
+    fs::read(path).expect(name)
 }
 
 #[test]
@@ -90,6 +96,27 @@ fn star_owned() {
         star.lend().unfold(Level(1), &mut table).map(|r| r.count),
         Ok(28)
     );
+}
+
+/// Faces removed and edges contracted: survivors, count and since of each level, as the program levels prints them.
+#[test]
+fn pipe_levels() {
+    let pipe = PyramidBuf::from_record(&record("pipe")).unwrap();
+    let (mut table, mut words) = (vec![0; pipe.entries()], [0; WORDS]);
+    assert_eq!(pipe.lend().check(&mut table), Ok(()));
+    let of_level = [
+        (576, 2304, 0),
+        (396, 1944, 1),
+        (268, 1568, 2),
+        (184, 1264, 3),
+        (132, 984, 4),
+    ];
+    for (level, (survivors, count, since)) in of_level.into_iter().enumerate() {
+        let level = Level(level as u8);
+        let unfolding = pipe.lend().unfold(level, &mut table).unwrap();
+        assert_eq!((unfolding.count, unfolding.since), (count, Level(since)));
+        assert_eq!(pipe.lend().survivors(level, &mut words), Ok(survivors));
+    }
 }
 
 #[test]

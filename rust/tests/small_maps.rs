@@ -52,9 +52,20 @@ impl Grown {
     }
 
     fn add(&mut self, dimension: Dimension, removed: &[usize]) -> Result<Level, Refusal> {
+        self.add_marked(&[(dimension.removed(), removed)])
+    }
+
+    fn contract(&mut self, dimension: Dimension, contracted: &[usize]) -> Result<Level, Refusal> {
+        self.add_marked(&[(dimension.contracted(), contracted)])
+    }
+
+    /// One kernel, of cells with their marks.
+    fn add_marked(&mut self, cells: &[(u8, &[usize])]) -> Result<Level, Refusal> {
         let mut marks = vec![STAY; usize::from(self.lend().darts)];
-        for &dart in removed {
-            marks[dart] = dimension.0;
+        for &(mark, cell) in cells {
+            for &dart in cell {
+                marks[dart] = mark;
+            }
         }
         self.pyramid.add(&marks, &mut self.table)
     }
@@ -162,6 +173,52 @@ fn p8_p9_star() {
 fn p10_star_vertex() {
     assert_eq!(
         Grown::new(2, &STAR).add(Dimension(0), &[0, 1, 2, 3, 4, 5]),
+        Err(refused(10, 0, 1, 0))
+    );
+}
+
+#[test]
+fn c1_segment_contracted() {
+    let mut segment = Grown::new(1, &[1, 0, 0, 1]);
+    assert_eq!(segment.contract(Dimension(1), &[0, 1]), Ok(Level(1)));
+    assert_eq!(segment.table, [ABSENT; 4]);
+    assert_eq!(segment.lend().delta, [9, 9]);
+    assert_eq!(segment.unfolding(1), unfolding(0, 0));
+}
+
+#[test]
+fn c2_square_with_an_edge_contracted() {
+    let mut square = Grown::new(1, &SQUARE);
+    assert_eq!(square.contract(Dimension(1), &[0, 1]), Ok(Level(1)));
+    assert_eq!(square.read(1, 1, 7), link(2, 3, 1));
+    assert_eq!(square.read(1, 1, 2), link(7, 3, 1));
+    assert_eq!(square.unfolding(1), unfolding(16, 1));
+    let mut marks = [0; 8];
+    assert_eq!(square.lend().marks_of(Level(0), &mut marks), Ok(()));
+    assert_eq!(marks, [9, 9, STAY, STAY, STAY, STAY, STAY, STAY]);
+}
+
+#[test]
+fn c4_both_kinds_in_one_kernel() {
+    let rows = [0, 1, 2, 4, 3, 5, 1, 0, 3, 2, 5, 4, 0, 2, 1, 3, 4, 5];
+    let mut map = Grown::new(2, &rows);
+    let edge = Dimension(1);
+    let cells = [
+        (edge.removed(), &[1, 2][..]),
+        (edge.contracted(), &[3, 4][..]),
+    ];
+    assert_eq!(map.add_marked(&cells), Ok(Level(1)));
+    assert_eq!(map.read(1, 1, 0), link(5, 5, 1));
+    assert_eq!(map.unfolding(1), unfolding(14, 1));
+}
+
+#[test]
+fn c5_face_not_contractible() {
+    let rows = [
+        1, 0, 3, 2, 5, 4, 7, 6, 2, 1, 0, 3, 4, 5, 6, 7, 4, 5, 6, 7, 0, 1, 2, 3,
+    ];
+    assert_eq!(
+        Grown::new(2, &rows).contract(Dimension(2), &[0, 1, 2, 3]),
         Err(refused(10, 0, 1, 0))
     );
 }

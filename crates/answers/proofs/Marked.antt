@@ -1,4 +1,4 @@
--- Laws of number 8 over all darts. Assumes nothing.
+-- Laws of how a walk goes on, and of number 8 over all darts. Assumes nothing.
 use mathlib.Core.Path.{_≡_}
 use mathlib.Core.Bool.{true, false}
 use mathlib.Core.List.{List, []}
@@ -11,7 +11,12 @@ use Rattle.maps.specs.Table.{each}
 use Rattle.maps.specs.Folded.{refusedMarks}
 use Rattle.maps.specs.MarksBack.{atMarks8}
 use Rattle.laws.proofs.Verdicts.{when-accepted, scan-accepted, scan-all, scan-first}
-use Rattle.answers.specs.Marked.{marksRefusal}
+use Rattle.answers.specs.declared.Onward.{Onward}
+use Rattle.answers.specs.Marked.{Goes, marksRefusal}
+
+-- what was said of an answer that was taken apart
+pub goes-told : (mark t : ℕ) {onward is : Onward} → Goes mark t onward → onward ≡ is → Goes mark t is
+goes-told mark t g e = rw e at g
 
 module _ (n N h : ℕ) (lambda delta : List ℕ) (l : ℕ) where
   abbrev at-marks : ℕ → Verdict

@@ -3,14 +3,13 @@ mod marks; // marks.rt: what a mark lets a walk do, and number 8
 mod tables; // tables.rt: an entry of a table
 mod tests; // tests.rt: the tests of sizes, of exact lengths and of the level asked
 
-pub use marks::across;
 pub use marks::between;
 pub use marks::beyond;
-pub use marks::can_pass;
 pub use marks::has_beyond;
 pub use marks::is_mark;
 pub use marks::marks_refusal;
 pub use marks::marks_refused;
+pub use marks::row_across;
 pub use tables::at;
 pub use tables::there;
 pub use tests::asked;
@@ -34,6 +33,12 @@ pub struct Mark(pub u8);
 
 // The two rows between which a mark lets a walk pass; the first is its dimension.
 pub struct Passage(pub Dim, pub Dim);
+
+// How a walk goes on at a dart that it met: by a row, or nowhere.
+pub enum Onward {
+    By(Dim),
+    Nowhere,
+}
 
 // What a reading is asked: a level, an involution and a dart; 0 where a job is asked less.
 pub struct Question {

@@ -3,6 +3,7 @@ use super::Check;
 use super::Dim;
 use super::Level;
 use super::Mark;
+use super::Onward;
 use super::Passage;
 use super::Refusal;
 ghost use mathlib.Core.Path.{_≡_};
@@ -11,18 +12,29 @@ ghost use mathlib.Core.List.{[]};
 ghost use Prim.Native.Nat.{ℕ, _<_, _≤_};
 ghost use lib.ListN.{length};
 ghost use Rattle.maps.specs.Verdict.{scan};
-ghost use Rattle.maps.specs.Mark.{isMark, stay, between as betweenOf, hasBeyond, beyond as beyondOf, canPass, across as acrossOf};
+ghost use Rattle.maps.specs.Mark.{isMark, stay, between as betweenOf, hasBeyond, beyond as beyondOf};
 ghost use Rattle.maps.specs.Table.{each};
 ghost use Rattle.maps.specs.Folded.{refusedMarks};
+ghost use Rattle.laws.proofs.Marks.{lower};
 ghost use Rattle.maps.specs.MarksBack.{atMarks8};
 ghost use Rattle.answers.specs.Numbers.{verdictOf};
-ghost use Rattle.answers.specs.Marked.{marksRefusal};
+ghost use Rattle.answers.specs.Marked.{Goes, marksRefusal};
+
+// The lower of the two rows between which a mark lets a walk pass; the other is the next.
+fn lower_row(mark: Mark) -> u8
+    ensures { λ r. ⌜ r ≡ lower (mark .0) ⌝ }
+{
+    if 8 < mark.0 {
+        return mark.0 - 9;
+    }
+    mark.0
+}
 
 // Is a byte a mark?
 pub fn is_mark(n: Dim, mark: Mark) -> bool
     ensures { λ r. ⌜ r ≡ isMark (n .0) (mark .0) ⌝ }
 {
-    mark.0 < n.0
+    lower_row(mark) < n.0
 }
 
 // The two rows between which a mark lets a walk pass.
@@ -30,37 +42,34 @@ pub fn between(mark: Mark) -> Passage
     requires { ⌜ mark .0 < stay ⌝ }
     ensures { λ r. ⌜ (r .0 .0 ≡ betweenOf (mark .0) .0) × (r .1 .0 ≡ betweenOf (mark .0) .1) ⌝ }
 {
+    if 8 < mark.0 {
+        return Passage(Dim(mark.0 - 8), Dim(mark.0 - 9));
+    }
     Passage(Dim(mark.0), Dim(mark.0 + 1))
 }
 
-// May a walk that came by row t pass a dart of this mark?
-pub fn can_pass(mark: Mark, t: Dim) -> bool
+// The row by which a walk that came by row t goes on past a dart of this mark, if it may.
+pub fn row_across(mark: Mark, t: Dim) -> Onward
     requires { ⌜ mark .0 < stay ⌝ }
-    ensures { λ r. ⌜ r ≡ canPass (mark .0) (t .0) ⌝ }
+    ensures { λ r. ⌜ Goes (mark .0) (t .0) r ⌝ }
 {
-    let rows = between(mark);
-    if t.0 == rows.0.0 {
-        return true;
+    let low = lower_row(mark);
+    if t.0 == low {
+        return Onward::By(Dim(t.0 + 1));
     }
-    t.0 == rows.1.0
-}
-
-// The row by which it then goes on.
-pub fn across(mark: Mark, t: Dim) -> Dim
-    requires { ⌜ mark .0 < stay ⌝ }
-    ensures { λ r. ⌜ r .0 ≡ acrossOf (mark .0) (t .0) ⌝ }
-{
-    let rows = between(mark);
-    if t.0 == rows.0.0 {
-        return rows.1;
+    if t.0 == low + 1 {
+        return Onward::By(Dim(t.0 - 1));
     }
-    rows.0
+    Onward::Nowhere
 }
 
 // Has the map a row that has to commute with the second of them?
 pub fn has_beyond(n: Dim, mark: Mark) -> bool
     ensures { λ r. ⌜ r ≡ hasBeyond (n .0) (mark .0) ⌝ }
 {
+    if 8 < mark.0 {
+        return 9 < mark.0;
+    }
     if n.0 < 2 {
         return false;
     }
@@ -72,6 +81,9 @@ pub fn beyond(n: Dim, mark: Mark) -> Dim
     requires { ⌜ (n .0 ≤ 4) × (hasBeyond (n .0) (mark .0) ≡ true) ⌝ }
     ensures { λ r. ⌜ r .0 ≡ beyondOf (mark .0) ⌝ }
 {
+    if 8 < mark.0 {
+        return Dim(mark.0 - 10);
+    }
     Dim(mark.0 + 2)
 }
 

@@ -1,16 +1,16 @@
 -- On an accepted level the marked row is a kernel: whole cells, removable, and no removable cell is left out. Assumes nothing.
 use mathlib.Core.Path.{_≡_, sym, ap, _∙_}
 use mathlib.Core.Logic.{inl, inr}
-use mathlib.Core.Bool.{true, true≢false}
+use mathlib.Core.Bool.{true, false, true≢false}
 use mathlib.Core.List.{List}
 use Prim.Native.Nat.{ℕ, suc, _+_, _*_, _<_}
 use native.Mathlib.Omega.{arith}
 use lib.ListN.{length}
-use borrow.Author.Tests.{ltb-true}
+use borrow.Author.Tests.{ltb-true, le-ltb}
 use Rattle.maps.specs.Verdict.{accepted}
 use Rattle.maps.specs.Map.{Involutions}
 use Rattle.maps.specs.Cell.{Cell, itself, onward}
-use Rattle.maps.specs.Mark.{isMark}
+use Rattle.maps.specs.Mark.{isMark, contracts}
 use Rattle.maps.specs.Kernel.{Removable, Kernel}
 use Rattle.maps.specs.Table.{entry, each}
 use Rattle.maps.specs.Check.{checkKernel}
@@ -37,10 +37,14 @@ module _ (n N : ℕ) (table : List ℕ) (δ : ℕ) (out : List ℕ) (marked : Ce
   pub marked-all : (d : ℕ) → d < N → present N table d ≡ true → Removable (entry N table) n δ d → each out d ≡ δ
   marked-all d ld p ok = elim (marked .mark d ld) [ inl w ↦ w .2 | inr w ↦ absurd (w .0 (p, ok)) ]
 
-  module _ (level : ExplicitLevel n N table) where
+  module _ (level : ExplicitLevel n N table) (below : δ < n) where
     -- only removable cells are marked
     pub marked-only : (d : ℕ) → d < N → isMark n (each out d) ≡ true → (present N table d ≡ true) × Removable (entry N table) n δ d × (each out d ≡ δ)
     marked-only d ld q = elim (marked .mark d ld) [ inl w ↦ w | inr w ↦ absurd (true≢false (sym q ∙ ap (isMark n) (w .1) ∙ stay-none n (omega (arith, level .rows .dimension)))) ]
+
+    -- a dimension below n, and n is at most 4, so the mark is that of a removal
+    removes : (d : ℕ) → each out d ≡ δ → contracts (each out d) ≡ false
+    removes d e = le-ltb 8 (each out d) (omega (arith, level .rows .dimension))
 
     pub marked-kernel : Kernel (entry N table) n (There (entry N table) n N (present N table)) (each out)
     marked-kernel =
@@ -49,11 +53,11 @@ module _ (n N : ℕ) (table : List ℕ) (δ : ℕ) (out : List ℕ) (marked : Ce
         (λ d j p q lj ne.
         let w = marked-only d (p .0) q in
         let there = v .inside j d lj p in
-        let next : Cell (entry N table) n δ d (entry N table j d) = onward d j itself lj (λ e. ne (e ∙ sym (ap (λ (x : ℕ × ℕ). x .0) (removed-rows n (each out d) .0) ∙ w .2))) in
+        let next : Cell (entry N table) n δ d (entry N table j d) = onward d j itself lj (λ e. ne (e ∙ sym (ap (λ (x : ℕ × ℕ). x .0) (removed-rows n (each out d) (removes d (w .2)) .0) ∙ w .2))) in
         marked-all (entry N table j d) (there .0) (there .1) (λ f e c. w .1 f e (cell-join (entry N table) n δ d (entry N table j d) e next c)) ∙ sym (w .2))
         (λ d p q h.
         let w = marked-only d (p .0) q in
-        let r = removed-rows n (each out d) in
+        let r = removed-rows n (each out d) (removes d (w .2)) in
         let l = ltb-true (each out d + 1) n (sym (r .1) ∙ h) in
         rw (r .0, r .2, w .2) (w .1 (omega (arith, w .2)) d itself))
 
@@ -69,7 +73,8 @@ pub job-kernel : (n N : ℕ) (table : List ℕ) (δ : ℕ) (found out : List ℕ
 job-kernel n N table δ found out e left =
     let marked : CellsMarked n N table δ out = rw e at left in
     let level = accepted-level n N table δ found e .0 in
-    (marked-kernel n N table δ out marked level, marked-accepted n N table δ out marked level)
+    let below = accepted-level n N table δ found e .1 in
+    (marked-kernel n N table δ out marked level below, marked-accepted n N table δ out marked level below)
 
 -- what marking marks on the table that check left, add accepts, with any lent table of the exact length
 pub marked-added : (n N h : ℕ) (rows lambda delta table : List ℕ) → checkLent n N h rows lambda delta table ≡ accepted → h < 32 → (δ : ℕ) (found out table′ : List ℕ)
@@ -82,6 +87,6 @@ marked-added n N h rows lambda delta table c room δ found out table′ e left a
     let marked : CellsMarked n N T δ out = rw (t, e′) at left in
     let level = accepted-level n N T δ found e′ .0 in
     let below = accepted-level n N T δ found e′ .1 in
-    top-row-added n N h rows lambda delta table c out table′ as-long room (marked .long) (λ d ld q. marked-only n N T δ out marked level d ld q .0)
+    top-row-added n N h rows lambda delta table c out table′ as-long room (marked .long) (λ d ld q. marked-only n N T δ out marked level below d ld q .0)
     (λ d ld q. elim (marked .mark d ld) [ inl w ↦ absurd (true≢false (sym (ap (isMark n) (w .2) ∙ is-removal n δ below) ∙ q)) | inr w ↦ w .1 ])
-    (marked-accepted n N T δ out marked level h)
+    (marked-accepted n N T δ out marked level below h)

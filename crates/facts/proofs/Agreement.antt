@@ -71,7 +71,7 @@ module _ (a a′ : Involutions) (n : ℕ) (present present′ : ℕ → Type 0) 
       commutes-same d (between (mark′ d) .1) (beyond (mark′ d)) (mark-rows n (mark′ d) q .second) (beyond-row n (mark′ d) q h .0) p (rw s at (kernel-commutes a n present mark k d p (rw s q) (rw s h))))
 
   pub kernel-same : Kernel a′ n present′ mark′
-  kernel-same = let r = kernel-there in record { whole = λ d j p. r .whole d j (sub d p); removable = λ d p. r .removable d (sub d p) }
+  kernel-same = let r = kernel-there in record { whole = λ d j p. r .whole d j (sub d p); removable = λ d p. r .removable d (sub d p); contractible = λ d p. r .contractible d (sub d p) }
 
 -- the same kernels give the same levels
 module _ (a : Involutions) (n N h : ℕ) (kernels kernels′ : ℕ → ℕ → ℕ) (present : ℕ → ℕ → Type 0) (down : (l d : ℕ) → present (suc l) d → present l d)

@@ -1,4 +1,4 @@
--- The walk facts, for every n, every accepted pyramid and every level. Assumes nothing.
+-- The walk facts, for every n up to 9, every accepted pyramid and every level. Assumes nothing.
 use mathlib.Core.Path.{_≡_, ap}
 use Prim.Native.Nat.{ℕ, suc, _+_, _*_, _≤_}
 use native.Mathlib.Omega.{arith}
@@ -25,9 +25,9 @@ module _ (a : Involutions) (n N h : ℕ) (Λ Δ : ℕ → ℕ) where
     pub valid : Valid (level a n N (marks h Λ Δ) l) n (On N Λ l)
     -- the direct walk ends at that level's neighbour, by the row it began with, and so meets no 5, 8, 14 or 15
     pub ends : (i b : ℕ) → i ≤ n → On N Λ l b → walk a n N h Λ Δ l i b ≡ ended i (level a n N (marks h Λ Δ) l i b) (reads a n N h Λ Δ l i b)
-    -- one walk reads at least one entry, and at most 1 + 2·(darts removed below)
+    -- one walk reads at least one entry, and at most 1 + 2·(darts removed or contracted below)
     pub few : (i b : ℕ) → i ≤ n → On N Λ l b → (1 ≤ reads a n N h Λ Δ l i b) × (reads a n N h Λ Δ l i b ≤ 1 + 2 * removedBelow N Λ l)
-    -- the whole level costs at most (n+1)·survivors + 2·removed
+    -- the whole level costs at most (n+1)·survivors + 2·(removed or contracted)
     pub bound : cost a n N h Λ Δ l ≤ suc n * survivors N Λ l + 2 * removedBelow N Λ l
     -- the reading by levels gives the same neighbour with the same count
     pub alike : (i b : ℕ) → i ≤ n → On N Λ l b → byLevels a n N h Λ Δ i b l ≡ walk a n N h Λ Δ l i b

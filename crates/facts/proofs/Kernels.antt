@@ -1,16 +1,15 @@
 -- A kernel in the document's words is one that walks can pass, and its removal is the map without it. Assumes nothing.
-use mathlib.Core.Path.{_≡_, refl, sym, ap, _∙_}
-use mathlib.Core.Logic.{_⊎_, inl, inr}
+use mathlib.Core.Path.{_≡_, refl, sym, _∙_}
 use mathlib.Core.Bool.{Bool, true, false}
-use Prim.Native.Nat.{ℕ, zero, suc, _≤_}
+use Prim.Native.Nat.{ℕ, zero, suc}
 use lib.Dec.{eqb}
 use Rattle.maps.specs.Map.{Involutions, Valid}
-use Rattle.maps.specs.Mark.{isMark, between, hasBeyond, beyond}
+use Rattle.maps.specs.Mark.{isMark, contracts, between}
 use Rattle.maps.specs.Kernel.{Kernel}
 use Rattle.maps.specs.Removal.{goOn, removal}
-use Rattle.laws.proofs.Marks.{Far, mark-rows, far-second}
-use Rattle.facts.proofs.Removals.{Passing, along, without, crosses}
-use Rattle.facts.proofs.Commuting.{kernel-commutes}
+use Rattle.facts.proofs.Removals.{Passing, along, without}
+use Rattle.facts.proofs.ByKind.{KernelOf, passing-of}
+use Rattle.laws.proofs.Marks.{onto, removed-rows, contracted-rows, mark-range, second-row}
 
 -- `dim d` and `via d` are the rows between which the mark of d lets a walk pass
 module _ (a : Involutions) (n : ℕ) (mark dim via : ℕ → ℕ) (rows : (d : ℕ) → isMark n (mark d) ≡ true → (dim d ≡ between (mark d) .0) × (via d ≡ between (mark d) .1)) where
@@ -32,21 +31,25 @@ module _ (a : Involutions) (n : ℕ) (mark dim via : ℕ → ℕ) (rows : (d : �
   removal-without N i b = goOn-along N i (a i b)
 
   module _ (present : ℕ → Type 0) (m : Valid a n present) (k : Kernel a n present mark) where
-    pass-marked : (d j : ℕ) → present d → removed d ≡ true → j ≤ n → Far (between (mark d) .0) j → a (between (mark d) .1) (a j d) ≡ a j (a (between (mark d) .1) d)
-    pass-marked d j p q lj f = go (far-second n (mark d) j q lj f)
-      where
-        go : ((hasBeyond n (mark d) ≡ true) × (j ≡ beyond (mark d))) ⊎ Far (between (mark d) .1) j → a (between (mark d) .1) (a j d) ≡ a j (a (between (mark d) .1) d)
-        go (inl r) = rw (r .1) (sym (kernel-commutes a n present mark k d p q (r .0)))
-        go (inr g) = crosses a n present m (between (mark d) .1) j d g (mark-rows n (mark d) q .second) lj p
+    -- by kind and dimension
+    kernel-of : KernelOf a n present removed (λ d. contracts (mark d)) (λ d. between (mark d) .0)
+    kernel-of = record {
+      range = λ d p q. mark-range n (mark d) q;
+      whole = λ d j p q lj ne. let w = k .whole d j p q lj ne in rw w (q, refl, refl);
+      removable = λ d p q e. rw (removed-rows n (mark d) e .0) (k .removable d p q e);
+      contractible = λ d p q e. rw (contracted-rows n (mark d) e .0) (k .contractible d p q e);
+    }
 
     pub passing : Passing a n present dim via removed
-    passing = record {
-      low = λ d p q. rw (rows d q .0) (mark-rows n (mark d) q .first);
-      high = λ d p q. rw (rows d q .1) (mark-rows n (mark d) q .second);
-      two = λ d p q e. mark-rows n (mark d) q .two (sym (rows d q .0) ∙ e ∙ rows d q .1);
-      whole = λ d j p q l z.
-          let w = k .whole d j p q l (λ e. z (rows d q .0 ∙ sym e)) in
-          let q′ : removed (a j d) ≡ true = rw w q in
-          (q′, rows (a j d) q′ .0 ∙ ap (λ (x : ℕ). between x .0) w ∙ sym (rows d q .0), rows (a j d) q′ .1 ∙ ap (λ (x : ℕ). between x .1) w ∙ sym (rows d q .1));
-      pass = λ d j p q l f. rw (rows d q .1) (pass-marked d j p q l (rw (rows d q .0) at f));
-    }
+    passing =
+        let r = passing-of a n present m removed (λ d. contracts (mark d)) (λ d. between (mark d) .0) kernel-of in
+        let other : (d : ℕ) → removed d ≡ true → via d ≡ onto (contracts (mark d)) (between (mark d) .0) = λ d q. rows d q .1 ∙ second-row (mark d) in
+        record {
+          low = λ d p q. rw (rows d q .0) (r .low d p q);
+          high = λ d p q. rw (other d q) (r .high d p q);
+          two = λ d p q e. r .two d p q (sym (rows d q .0) ∙ e ∙ other d q);
+          whole = λ d j p q lj ne.
+              let w = r .whole d j p q lj (λ e. ne (rows d q .0 ∙ e)) in
+              (w .0, rows (a j d) (w .0) .0 ∙ w .1 ∙ sym (rows d q .0), other (a j d) (w .0) ∙ w .2 ∙ sym (other d q));
+          pass = λ d j p q lj f. rw (other d q) (r .pass d j p q lj (rw (rows d q .0) at f));
+        }

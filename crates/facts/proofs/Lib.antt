@@ -1,6 +1,7 @@
 pub mod Runs
 pub mod Removals
 pub mod Commuting
+pub mod ByKind
 pub mod Kernels
 pub mod Levels
 pub mod Readings
@@ -26,3 +27,6 @@ pub mod TowerLinks
 pub mod Pyramids
 pub mod Links
 pub mod LinkedJobs
+pub mod EveryN
+pub mod Duals
+pub mod DualReadings

@@ -1,4 +1,4 @@
--- Nothing is vacuous: the star of P8 and P9 is an accepted pyramid, and the facts are used at it. Assumes nothing.
+-- Nothing is vacuous: the star of P8 and P9, its dual, and a kernel of either kind are accepted pyramids, and the facts are used at them. Assumes nothing.
 use mathlib.Core.Path.{_≡_}
 use Prim.Native.Nat.{_≤_}
 use lib.Dec.{lit<, lit≤}
@@ -9,10 +9,11 @@ use Rattle.maps.specs.Folded.{marks, foldΛ, foldΔ}
 use Rattle.maps.specs.Walk.{ended, walkFrom, walk}
 use Rattle.maps.specs.Cost.{reads}
 use Rattle.maps.specs.Pyramid.{Pyramid}
-use Rattle.maps.proofs.Small.{star, costs, neighbour, direct, levelwise, small-maps}
+use Rattle.maps.proofs.Small.{star, mixed, costs, neighbour, direct, levelwise, small-maps, small-contractions}
 use Rattle.facts.proofs.Checks.{check-pyramid}
 use Rattle.facts.proofs.Folding.{folded-back}
 use Rattle.facts.proofs.Facts.{facts}
+use Rattle.facts.proofs.DualReadings.{Dual, duality}
 
 pub star-pyramid : Pyramid (entry 12 (star .rows)) 2 12 2 (each (star .lambda)) (each (star .delta))
 star-pyramid = check-pyramid (entry 12 (star .rows)) 2 12 2 (each (star .lambda)) (each (star .delta)) (lit≤ tt) (small-maps .p9 .0)
@@ -33,3 +34,19 @@ star-levels = facts (entry 12 (star .rows)) 2 12 2 (each (star .lambda)) (each (
 -- dart 3's marks, read back and folded again
 pub star-folded : (foldΛ 2 (marks 2 (each (star .lambda)) (each (star .delta))) 2 3 ≡ 0) × (foldΔ 2 (marks 2 (each (star .lambda)) (each (star .delta))) 2 3 ≡ 1)
 star-folded = folded-back 2 2 (each (star .lambda)) (each (star .delta)) (lit≤ tt) 3 (star-pyramid .allowed 3 (lit< tt))
+
+-- one kernel with a removed and a contracted edge: 14 of the 14 that the bound allows
+pub mixed-pyramid : Pyramid (entry 6 (mixed .rows)) 2 6 1 (each (mixed .lambda)) (each (mixed .delta))
+mixed-pyramid = check-pyramid (entry 6 (mixed .rows)) 2 6 1 (each (mixed .lambda)) (each (mixed .delta)) (lit≤ tt) (small-contractions .c4 .0)
+
+pub mixed-bound : (costs mixed 1 ≡ 14) × (costs mixed 1 ≤ 14)
+unfolding count
+mixed-bound = (small-contractions .c4 .5, facts (entry 6 (mixed .rows)) 2 6 1 (each (mixed .lambda)) (each (mixed .delta)) mixed-pyramid 1 (lit≤ tt) .bound)
+
+pub mixed-walk : direct mixed 1 1 0 ≡ ended 1 (neighbour mixed 1 1 0) 5
+unfolding isMark between reads walk walkFrom
+mixed-walk = facts (entry 6 (mixed .rows)) 2 6 1 (each (mixed .lambda)) (each (mixed .delta)) mixed-pyramid 1 (lit≤ tt) .ends 1 0 (lit≤ tt) (lit< tt, lit≤ tt)
+
+-- the star's dual, by the law: its edge and its vertex are contracted as an edge and as a face
+pub star-dual : Dual (entry 12 (star .rows)) 2 12 2 (each (star .lambda)) (each (star .delta))
+star-dual = duality (entry 12 (star .rows)) 2 12 2 (each (star .lambda)) (each (star .delta)) star-pyramid

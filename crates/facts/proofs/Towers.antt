@@ -58,15 +58,15 @@ module _ (a : Involutions) (n N h : ℕ) (Λ dim via : ℕ → ℕ) (t : Tower a
   }
 
   -- what is gone stays gone
-  gone-suc : (l d : ℕ) → gone Λ l d ≡ true → gone Λ (suc l) d ≡ true
+  pub gone-suc : (l d : ℕ) → gone Λ l d ≡ true → gone Λ (suc l) d ≡ true
   gone-suc l d q = lt-ltb (Λ d) (suc l) (omega (arith, ltb-true (Λ d) l q))
 
   -- kernel l is gone on level l+1
-  gone-kernel : (l d : ℕ) → inKernel Λ l d ≡ true → gone Λ (suc l) d ≡ true
+  pub gone-kernel : (l d : ℕ) → inKernel Λ l d ≡ true → gone Λ (suc l) d ≡ true
   gone-kernel l d q = lt-ltb (Λ d) (suc l) (omega (arith, eqb-true (Λ d) l q))
 
   -- the rest of level l is not
-  gone-not : (l d : ℕ) → On N Λ l d → inKernel Λ l d ≡ false → gone Λ (suc l) d ≡ false
+  pub gone-not : (l d : ℕ) → On N Λ l d → inKernel Λ l d ≡ false → gone Λ (suc l) d ≡ false
   gone-not l d o q = le-ltb (Λ d) (suc l) (omega (arith, on-above N Λ l d (o, q) .1))
 
   -- the direct walk of a dart of level l by row i ends, by row i, at the dart's neighbour on level l

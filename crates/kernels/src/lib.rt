@@ -8,7 +8,7 @@ use answers::Dim;
 use answers::Level;
 pub use removing::remove;
 pub use strings::link;
-pub use testing::removable;
+pub use testing::fitting;
 pub use testing::whole;
 ghost use mathlib.Core.Path.{_≡_};
 ghost use Rattle.maps.specs.Table.{entry};
@@ -36,7 +36,7 @@ pub fn step(
     if let Check::Refused(r) = whole(n, darts, l, lambda, delta, next, first, table) {
         return Check::Refused(r);
     }
-    if let Check::Refused(r) = removable(n, darts, l, lambda, delta, next, first, table) {
+    if let Check::Refused(r) = fitting(n, darts, l, lambda, delta, next, first, table) {
         return Check::Refused(r);
     }
     remove(n, darts, l, lambda, delta, next, first, table);

@@ -92,7 +92,7 @@ fn commuting(n: Dim, darts: usize, table: &[u16], mark: Mark, d: usize) -> bool
 }
 
 // Number 10: the first dart of the kernel whose own commuting test fails.
-pub fn removable(
+pub fn fitting(
     n: Dim,
     darts: usize,
     l: Level,

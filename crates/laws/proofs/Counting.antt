@@ -3,7 +3,7 @@ use mathlib.Core.Path.{_≡_, refl, ap, _∙_}
 use mathlib.Core.Logic.{_⊎_, inl, inr}
 use mathlib.Core.Bool.{Bool, true, false, _&&_, not}
 use mathlib.Core.List.{List, [], _∷_, _++_}
-use Prim.Native.Nat.{ℕ, zero, suc, _+_, _*_, _≤_, _<_}
+use Prim.Native.Nat.{ℕ, zero, suc, _+_, _-_, _*_, _≤_, _<_}
 use native.Mathlib.Nat.{add-zero, add-suc}
 use native.Mathlib.Omega.{arith}
 use lib.ListN.{length, length-append}
@@ -99,6 +99,19 @@ pub sum-add : (f g : ℕ → ℕ) (m : ℕ) → sum (λ x. f x + g x) m ≡ sum 
 unfolding sum
 sum-add f g zero = refl
 sum-add f g (suc m) = omega (arith, sum-add f g m)
+
+-- a sum taken from the other end
+sum-front : (f : ℕ → ℕ) (m : ℕ) → sum f (suc m) ≡ f 0 + sum (λ x. f (suc x)) m
+unfolding sum
+sum-front f zero = omega arith
+sum-front f (suc m) = omega (arith, sum-front f m)
+
+pub sum-reverse : (f : ℕ → ℕ) (m : ℕ) → sum (λ x. f (m - x)) (suc m) ≡ sum f (suc m)
+unfolding sum
+sum-reverse f zero = refl
+sum-reverse f (suc m) =
+    let k : suc m - 0 ≡ suc m = omega arith in
+    omega (arith, sum-front (λ x. f (suc m - x)) (suc m), ap f k, sum-same (λ x. f (suc m - suc x)) (λ x. f (m - x)) (suc m) (λ x l. let j : suc m - suc x ≡ m - x = omega arith in ap f j), sum-reverse f m)
 
 pub sum-const : (c m : ℕ) → sum (λ x. c) m ≡ m * c
 unfolding sum

@@ -1,4 +1,4 @@
--- The small maps P1 to P10, by computation on the definitions. Assumes nothing.
+-- The small maps P1 to P10, and small maps with contraction, by computation on the definitions. Assumes nothing.
 use mathlib.Core.Path.{_≡_, refl}
 use mathlib.Core.Bool.{true, false}
 use mathlib.Core.List.{List, [], _∷_}
@@ -9,7 +9,7 @@ use Rattle.maps.specs.Mark.{isMark, between, hasBeyond, beyond, across}
 use Rattle.maps.specs.Removal.{goOn, removal}
 use Rattle.maps.specs.Table.{entry, each, listed, explicit}
 use Rattle.maps.specs.Folded.{gone, marks, level, levelTable}
-use Rattle.maps.specs.Walk.{Walked, ended, walkFrom, walk}
+use Rattle.maps.specs.Walk.{Walked, ended, stopped, walkFrom, walk}
 use Rattle.maps.specs.Trail.{sinceOf, largest, trailFrom, trail, since, latest}
 use Rattle.maps.specs.ByLevels.{readBase, overLevel, readLevel, byLevels}
 use Rattle.maps.specs.Cost.{reads, cost}
@@ -151,4 +151,95 @@ small-links = record {
   corner-links = (refl, refl, refl, refl);
   star-links = (refl, refl, refl, refl);
   star-trails = (refl, refl);
+}
+
+-- ---- contraction
+
+-- segment, its edge contracted
+abbrev pub shrunk : Lent
+shrunk = record { n = 1; N = 2; h = 1; rows = segment; lambda = 0 ∷ 0 ∷ []; delta = 9 ∷ 9 ∷ [] }
+
+-- square, edge {0,1} contracted
+abbrev pub shorter : Lent
+shorter = record { n = 1; N = 8; h = 1; rows = square; lambda = 0 ∷ 0 ∷ 1 ∷ 1 ∷ 1 ∷ 1 ∷ 1 ∷ 1 ∷ []; delta = 9 ∷ 9 ∷ 1 ∷ 1 ∷ 1 ∷ 1 ∷ 1 ∷ 1 ∷ [] }
+
+-- square, vertex {1,2} removed, then edge {0,3} contracted
+abbrev pub inTurn : Lent
+inTurn = record { n = 1; N = 8; h = 2; rows = square; lambda = 1 ∷ 0 ∷ 0 ∷ 1 ∷ 2 ∷ 2 ∷ 2 ∷ 2 ∷ []; delta = 9 ∷ 0 ∷ 0 ∷ 9 ∷ 1 ∷ 1 ∷ 1 ∷ 1 ∷ [] }
+
+-- one kernel: edge {1,2} removed, edge {3,4} contracted; a1 joins 0 and 1, 2 and 3, 4 and 5
+abbrev pub mixed : Lent
+mixed = record {
+  n = 2;
+  N = 6;
+  h = 1;
+  rows = 0 ∷ 1 ∷ 2 ∷ 4 ∷ 3 ∷ 5 ∷ 1 ∷ 0 ∷ 3 ∷ 2 ∷ 5 ∷ 4 ∷ 0 ∷ 2 ∷ 1 ∷ 3 ∷ 4 ∷ 5 ∷ [];
+  lambda = 1 ∷ 0 ∷ 0 ∷ 0 ∷ 0 ∷ 1 ∷ [];
+  delta = 2 ∷ 1 ∷ 1 ∷ 9 ∷ 9 ∷ 2 ∷ [];
+}
+
+-- the rows of P6 in the other order, and its vertex as a face to be contracted
+abbrev pub twoSidesDual : Lent
+twoSidesDual = record {
+  n = 2;
+  N = 8;
+  h = 1;
+  rows = 1 ∷ 0 ∷ 3 ∷ 2 ∷ 5 ∷ 4 ∷ 7 ∷ 6 ∷ 2 ∷ 1 ∷ 0 ∷ 3 ∷ 4 ∷ 5 ∷ 6 ∷ 7 ∷ 4 ∷ 5 ∷ 6 ∷ 7 ∷ 0 ∷ 1 ∷ 2 ∷ 3 ∷ [];
+  lambda = 0 ∷ 0 ∷ 0 ∷ 0 ∷ 1 ∷ 1 ∷ 1 ∷ 1 ∷ [];
+  delta = 10 ∷ 10 ∷ 10 ∷ 10 ∷ 2 ∷ 2 ∷ 2 ∷ 2 ∷ [];
+}
+
+-- the star's rows in the other order: edge {2,3,8,9} contracted, then face {0,1,4,5}
+abbrev pub starDual : Lent
+starDual = record {
+  n = 2;
+  N = 12;
+  h = 2;
+  rows = 1 ∷ 0 ∷ 3 ∷ 2 ∷ 5 ∷ 4 ∷ 7 ∷ 6 ∷ 9 ∷ 8 ∷ 11 ∷ 10 ∷ 5 ∷ 2 ∷ 1 ∷ 4 ∷ 3 ∷ 0 ∷ 7 ∷ 6 ∷ 9 ∷ 8 ∷ 11 ∷ 10 ∷ 6 ∷ 7 ∷ 8 ∷ 9 ∷ 10 ∷ 11 ∷ 0 ∷ 1 ∷ 2 ∷ 3 ∷ 4 ∷ 5 ∷ [];
+  lambda = 1 ∷ 1 ∷ 0 ∷ 0 ∷ 1 ∷ 1 ∷ 2 ∷ 2 ∷ 0 ∷ 0 ∷ 2 ∷ 2 ∷ [];
+  delta = 10 ∷ 10 ∷ 9 ∷ 9 ∷ 10 ∷ 10 ∷ 2 ∷ 2 ∷ 9 ∷ 9 ∷ 2 ∷ 2 ∷ [];
+}
+
+-- an edge {0,1}, half of it marked to be removed and half to be contracted
+abbrev pub torn : Lent
+torn = record { n = 2; N = 2; h = 1; rows = 1 ∷ 0 ∷ 0 ∷ 1 ∷ 0 ∷ 1 ∷ []; lambda = 0 ∷ 0 ∷ []; delta = 1 ∷ 9 ∷ [] }
+
+-- unchecked: of two a2-neighbours 1 and 2 one is removed and one contracted
+abbrev pub unlike : Lent
+unlike = record {
+  n = 2;
+  N = 4;
+  h = 1;
+  rows = 0 ∷ 1 ∷ 2 ∷ 3 ∷ 1 ∷ 0 ∷ 3 ∷ 2 ∷ 0 ∷ 2 ∷ 1 ∷ 3 ∷ [];
+  lambda = 1 ∷ 0 ∷ 0 ∷ 1 ∷ [];
+  delta = 2 ∷ 1 ∷ 9 ∷ 2 ∷ [];
+}
+
+-- the bytes n to 8 and 9+n to 254 are no marks
+abbrev pub tooHigh : ℕ → Lent
+tooHigh mark = record { n = 1; N = 2; h = 1; rows = segment; lambda = 0 ∷ 0 ∷ []; delta = mark ∷ mark ∷ [] }
+
+pub record SmallContractions : Type 0 where
+  pub c1 : (verdict shrunk ≡ accepted) × (table shrunk 1 ≡ 65535 ∷ 65535 ∷ 65535 ∷ 65535 ∷ []) × (costs shrunk 1 ≡ 0)
+  pub c2 : (verdict shorter ≡ accepted) × (neighbour shorter 1 1 7 ≡ 2) × (neighbour shorter 1 1 2 ≡ 7) × (direct shorter 1 1 7 ≡ ended 1 2 3) × (direct shorter 1 1 2 ≡ ended 1 7 3) × (costs shorter 1 ≡ 16)
+  pub c3 : (verdict inTurn ≡ accepted) × (neighbour inTurn 2 1 7 ≡ 4) × (direct inTurn 2 1 7 ≡ ended 1 4 5) × (levelwise inTurn 2 1 7 ≡ ended 1 4 5) × (rowsRead inTurn 2 5 1 7 ≡ 1 ∷ 0 ∷ 1 ∷ 0 ∷ 1 ∷ [])
+  pub c4 : (verdict mixed ≡ accepted) × (neighbour mixed 1 1 0 ≡ 5) × (direct mixed 1 1 0 ≡ ended 1 5 5) × (levelwise mixed 1 1 0 ≡ ended 1 5 5) × (rowsRead mixed 1 5 1 0 ≡ 1 ∷ 2 ∷ 1 ∷ 0 ∷ 1 ∷ []) × (costs mixed 1 ≡ 14)
+  pub c5 : verdict twoSidesDual ≡ refused 10 0 1 0
+  pub c6 : (verdict starDual ≡ accepted) × (neighbour starDual 1 1 1 ≡ 4) × (neighbour starDual 2 2 7 ≡ 10) × (direct starDual 2 2 7 ≡ ended 2 10 5) × (levelwise starDual 2 2 7 ≡ ended 2 10 5) × (rowsRead starDual 2 5 2 7 ≡ 2 ∷ 1 ∷ 0 ∷ 1 ∷ 2 ∷ []) × (costs starDual 0 ≡ 36) × (costs starDual 1 ≡ 28) × (costs starDual 2 ≡ 24)
+  pub c7 : verdict torn ≡ refused 9 0 0 0
+  pub c8 : (verdict unlike ≡ refused 9 0 2 1) × (direct unlike 1 1 0 ≡ stopped 14 2 2) × (levelwise unlike 1 1 0 ≡ stopped 14 2 2)
+  pub c9 : (verdict (tooHigh 1) ≡ refused 8 0 0 0) × (verdict (tooHigh 8) ≡ refused 8 0 0 0) × (verdict (tooHigh 10) ≡ refused 8 0 0 0) × (verdict (tooHigh 255) ≡ refused 8 0 0 0)
+
+pub small-contractions : SmallContractions
+unfolding isMark between hasBeyond beyond scan count sum goOn removal listed explicit level walkFrom walk readBase overLevel readLevel byLevels reads cost at5 at6 at7 check5 check6 check7 checkMap at9 at10 check9 check10 checkKernel at8 check8 kernelAt checkKernels checkPyramid rowsRead
+small-contractions = record {
+  c1 = (refl, refl, refl);
+  c2 = (refl, refl, refl, refl, refl, refl);
+  c3 = (refl, refl, refl, refl, refl);
+  c4 = (refl, refl, refl, refl, refl, refl);
+  c5 = refl;
+  c6 = (refl, refl, refl, refl, refl, refl, refl, refl, refl);
+  c7 = refl;
+  c8 = (refl, refl, refl);
+  c9 = (refl, refl, refl, refl);
 }

@@ -12,7 +12,7 @@ use Rattle.maps.specs.Check.{checkMap, check8, checkKernels, checkKernel
 use Rattle.maps.specs.CheckPyramid.{leftBehind}
 
 module _ (n N h : ℕ) (rows lambda delta row table : List ℕ) where
-  -- Scope: 'Add a level'. A mark row's entry is refused unless it is below n on a dart of level h, or 255.
+  -- Scope: 'Add a level'. A mark row's entry is refused unless it is a mark on a dart of level h, or 255.
   abbrev pub refusedMark : ℕ → Bool
   refusedMark d = not (cond (isMark n (each row d)) (eqb (each lambda d) h) (eqb (each row d) stay))
 

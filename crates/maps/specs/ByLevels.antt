@@ -23,7 +23,8 @@ module _ (a : Involutions) (n N h : ℕ) (Λ Δ : ℕ → ℕ) (i b : ℕ) where
   ]
 
   -- Scope: 'Reading by levels'. The walk over level l, which `below` reads, for row t of dart d on level l+1. A dart met that is not on
-  -- level l+1, and the dart reached from it, must both be in kernel l with the row's dimension, or it is 14.
+  -- level l+1 must be in kernel l with the row's dimension, and the dart reached from it by its mark's second row must bear the same mark there, or
+  -- it is 14.
   unfoldable pub overLevel : (ℕ → ℕ → ℕ → Walked) → ℕ → ℕ → ℕ → ℕ → ℕ → Walked
   overLevel below l zero t d c = stopped 15 i b
   overLevel below l (suc times) t d c = elim (below t d c) [

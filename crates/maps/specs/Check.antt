@@ -55,11 +55,11 @@ module _ (a : Involutions) (n N : ℕ) (mark : ℕ → ℕ) (l : ℕ) where
   abbrev pub leaves : ℕ → ℕ → Bool
   leaves d j = isMark n (mark d) && (not (eqb j (between (mark d) .0)) && not (eqb (mark (a j d)) (mark d)))
 
-  -- Scope: 'Removable cells'. A dart ends elsewhere by the mark's second row and then the row beyond it than in the other order.
+  -- Scope: 'Cells that fit'. A dart ends elsewhere by the mark's second row and then the row beyond it than in the other order.
   abbrev pub differs : ℕ → Bool
   differs d = not (eqb (a (beyond (mark d)) (a (between (mark d) .1) d)) (a (between (mark d) .1) (a (beyond (mark d)) d)))
 
-  -- Scope: 'Numbers of refusal'. 10: the dart's own test fails, so its cell isn't removable.
+  -- Scope: 'Numbers of refusal'. 10: the dart's own test fails, so its cell is neither removable nor contractible as it is marked.
   abbrev pub notFitting : ℕ → Bool
   notFitting d = isMark n (mark d) && (hasBeyond n (mark d) && differs d)
 

@@ -25,11 +25,11 @@ survives Λ l d = not (gone Λ l d)
 abbrev pub survivors : ℕ → (ℕ → ℕ) → ℕ → ℕ
 survivors N Λ l = count (survives Λ l) N
 
--- Scope: 'What is promised'. How many darts are removed below level l.
+-- Scope: 'What is promised'. How many darts are removed or contracted below level l.
 abbrev pub removedBelow : ℕ → (ℕ → ℕ) → ℕ → ℕ
 removedBelow N Λ l = count (gone Λ l) N
 
--- Scope: 'Numbers of refusal'. 8: Λ above h, or below it without a dimension for Δ, or h with another Δ than n.
+-- Scope: 'Numbers of refusal'. 8: Λ above h, or below it with a Δ that is no mark, or h with another Δ than n.
 abbrev pub refusedMarks : ℕ → ℕ → ℕ → ℕ → Bool
 refusedMarks n h lambda delta = cond (ltb h lambda) true (cond (ltb lambda h) (not (isMark n delta)) (not (eqb delta n)))
 

@@ -7,7 +7,8 @@ use Rattle.maps.specs.Mark.{widest}
 use Rattle.maps.specs.Kernel.{Kernel}
 use Rattle.maps.specs.Folded.{On, refusedMarks, marks, level}
 
--- Scope: 'Accepted pyramids'. A valid base, marks that are allowed, and below h at each level a kernel of that level. (n is 1 to 4; all that the facts need of it is that 255 is no mark.)
+-- Scope: 'Accepted pyramids'. A valid base, marks that are allowed, and below h at each level a kernel of that level. (n is 1 to 4;
+-- all that the facts need of it is that a byte says one thing.)
 pub record Pyramid (a : Involutions) (n N h : ℕ) (Λ Δ : ℕ → ℕ) : Type 0 where
   pub dimension : n ≤ widest
   pub base : Valid a n (λ d. d < N)

@@ -1,4 +1,4 @@
--- The removal of a kernel, all of its cells at once. Assumes nothing: these are definitions.
+-- The removal of a kernel, all of its cells at once, some removed and others contracted. Assumes nothing: these are definitions.
 use mathlib.Core.Bool.{Bool, true, false, _&&_}
 use Prim.Native.Nat.{ℕ, zero, suc}
 use lib.Dec.{eqb}
@@ -10,7 +10,8 @@ module _ (a : Involutions) (n : ℕ) (mark : ℕ → ℕ) where
   abbrev pub marked : ℕ → ℕ → Bool
   marked i d = isMark n (mark d) && eqb (between (mark d) .0) i
 
-  -- Scope: 'Removal'. From a dart marked i the way goes on, by the next row and then by a_i, at most so many times.
+  -- Scope: 'Removal'. From a dart of dimension i the way goes on, by the second row of its mark and then by a_i, at most so many times. One way may pass
+  -- removed and contracted darts.
   unfoldable pub goOn : ℕ → ℕ → ℕ → ℕ
   goOn zero i d = d
   goOn (suc times) i d = elim (marked i d) [ true ↦ goOn times i (a i (a (between (mark d) .1) d)) | false ↦ d ]

@@ -6,6 +6,7 @@ use super::later;
 use answers::Dim;
 use answers::Level;
 use answers::Mark;
+use answers::Onward;
 use answers::Refusal;
 ghost use mathlib.Core.Path.{_≡_};
 ghost use Prim.Native.Nat.{suc, _*_, max};
@@ -64,13 +65,14 @@ fn onward(
     let mut largest = lambda[from] as usize;
     loop {
         let mark = Mark(delta[from]);
-        if !answers::can_pass(mark, t) {
+        let across = answers::row_across(mark, t);
+        let Onward::By(row) = across else {
             return Rest::Stopped(Stop::NoPass(t, from as u16));
-        }
+        };
         if count == most {
             return Rest::Stopped(Stop::Long(involution, dart));
         }
-        t = answers::across(mark, t);
+        t = row;
         let e = answers::at(darts, rows, t, from as u16);
         if darts <= e {
             return Rest::Stopped(Stop::Strays(t, from as u16));

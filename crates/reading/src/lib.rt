@@ -5,6 +5,7 @@ use answers::Check;
 use answers::Dim;
 use answers::Level;
 use answers::Mark;
+use answers::Onward;
 use answers::Question;
 use answers::Refusal;
 use filling::answer;
@@ -97,14 +98,15 @@ fn walk(
         if !answers::is_mark(n, mark) {
             return Reading::Refused(Refusal::Marks(level, t, e));
         }
-        if !answers::can_pass(mark, t) {
+        let across = answers::row_across(mark, t);
+        let Onward::By(row) = across else {
             return Reading::Refused(Refusal::NoPass(level, t, e));
-        }
+        };
         if count == most {
             return Reading::Refused(Refusal::TooLong(level, involution, asked.dart));
         }
         since = later(since, Level(own.0 + 1));
-        t = answers::across(mark, t);
+        t = row;
         from = e;
     }
 }

@@ -26,7 +26,7 @@ abbrev passed : tie.After-enum-told2 → tie.After-enum-told
 passed c = c .before .before .before .before
 
 ten : (c : tie.After-enum-told2) → let a = start (passed c .before .before) .args in accepted ≡ check10 (entry (a .darts) (now (a .table))) (a .n .0) (a .darts) (kernelRow (now (a .lambda)) (now (a .delta)) (a .l .0)) (a .l .0)
-ten c = told (c .before .before .removable .ensures) (c .enum-told2 .given .1)
+ten c = told (c .before .before .fitting .ensures) (c .enum-told2 .given .1)
 
 whole-requires : tie.Need-whole-requires
 whole-requires c κs = search needs
@@ -43,8 +43,8 @@ returns c = step-nine (start (c .before .before .before) .pre .0) _ (c .before .
 enum-told : tie.Need-enum-told
 enum-told c = search needs
 
-removable-requires : tie.Need-removable-requires
-removable-requires c κs = search needs
+fitting-requires : tie.Need-fitting-requires
+fitting-requires c κs = search needs
 
 enum-known-r-2 : tie.Need-enum-known-r-2
 enum-known-r-2 c = search needs
@@ -53,7 +53,7 @@ same-length-2 : tie.Need-same-length-2
 same-length-2 c = search needs
 
 returns-2 : tie.Need-returns-2
-returns-2 c = let t = c .before .before .before .before .before in step-ten (start (t .before .before) .pre .0) _ (nine t) (c .before .r2 .given .0 .0) (told (c .before .before .before .removable .ensures) (c .before .r2 .given .1))
+returns-2 c = let t = c .before .before .before .before .before in step-ten (start (t .before .before) .pre .0) _ (nine t) (c .before .r2 .given .0 .0) (told (c .before .before .before .fitting .ensures) (c .before .r2 .given .1))
 
 enum-told-2 : tie.Need-enum-told-2
 enum-told-2 c = search needs
@@ -76,7 +76,7 @@ step-spec =
     same-length
     returns
     enum-told
-    removable-requires
+    fitting-requires
     enum-known-r-2
     same-length-2
     returns-2

@@ -1,14 +1,15 @@
 -- `reading::walk` meets its contract. The invariant: the whole walk is the rest of it, from row t of a dart, and the darts passed give the level so far. The measure: the reads that are left. Assumes nothing.
 use mathlib.Core.Path.{_≡_, sym, ap, _∙_}
-use mathlib.Core.Bool.{true, false, not}
+use mathlib.Core.Bool.{false, not}
 use Prim.Native.Nat.{_+_, _-_, _*_}
 use native.Mathlib.Omega.{arith}
 use denote.Ref.{now}
 use borrow.Author.Needs.{needs}
-use borrow.Author.Tests.{not-true, not-false}
-use Rattle.maps.specs.Mark.{canPass}
 use Rattle.maps.specs.Table.{each}
 use Rattle.maps.specs.Folded.{refusedMarks}
+use Rattle.answers.specs.declared.Onward.the-variants.{By}
+use Rattle.answers.specs.Marked.{Goes}
+use Rattle.answers.proofs.Marked.{goes-told}
 use Rattle.reading.specs.Walks.{Meets}
 use Rattle.reading.proofs.Walking.{stop-says, end-says, gone-marks, entry-fits, Next, next-first, strays, bad-marks, arrives, arrived, met-byte, no-pass, long, passes}
 use Rattle.reading.proofs.walk.Statement.{statement}
@@ -29,12 +30,12 @@ abbrev read : tie.After-struct-known2 Inv-loop μ-loop → tie.Else1 Inv-loop μ
 read c = c .before .before .before .before
 
 -- where it is passed, from the end of a turn
-abbrev goes : tie.After-across Inv-loop μ-loop → tie.Else6 Inv-loop μ-loop
-goes c = c .before .before .before
+abbrev goes : tie.After-later Inv-loop μ-loop → tie.Else5 Inv-loop μ-loop
+goes c = c .before .before
 
 -- where its marks are read
-abbrev marked : tie.Else6 Inv-loop μ-loop → tie.After-struct-known2 Inv-loop μ-loop
-marked c = c .before .before .before .before .before .before
+abbrev marked : tie.Else5 Inv-loop μ-loop → tie.After-struct-known2 Inv-loop μ-loop
+marked c = c .before .before .before .before .before .before .before .before
 
 -- the dart met is not on the level
 met : (c : tie.Else2 Inv-loop μ-loop) → let r = read (c .before) in let a = start r .args in let l = r .before .before .loop in
@@ -58,9 +59,10 @@ allowed : (c : tie.Else4 Inv-loop μ-loop) → let r = read (c .before .before .
     refusedMarks (a .n .0) (a .h .0) (each (now (a .lambda)) e) (each (now (a .delta)) e) ≡ false
 allowed c = decided (c .before) ∙ c .if4 .left
 
-passed : (c : tie.Else5 Inv-loop μ-loop) → let r = read (c .before .before .before .before .before) in
-    canPass (each (now (start r .args .delta)) (r .before .at .result)) (r .before .before .loop .t .0) ≡ true
-passed c = sym (c .before .can-pass .ensures) ∙ not-false (c .before .can-pass .result) (c .if5 .left)
+-- the row to go on by
+passed : (c : tie.After-across Inv-loop μ-loop) → let r = read (c .before .before .before .before .before .before) in
+    Goes (each (now (start r .args .delta)) (r .before .at .result)) (r .before .before .loop .t .0) (By (c .across .given .0 .0))
+passed c = let r = read (c .before .before .before .before .before .before) in goes-told (each (now (start r .args .delta)) (r .before .at .result)) (r .before .before .loop .t .0) (c .before .before .row-across .ensures) (c .across .given .1)
 
 mul-most : tie.Need-mul-most Inv-loop μ-loop
 mul-most c = search needs
@@ -83,17 +85,17 @@ returns c = stop-says _ (strays (c .before .before .loop .inv) (c .before .at .e
 add-count : tie.Need-add-count Inv-loop μ-loop
 add-count c = omega (arith, start c .pre .0 .darts, c .before .before .loop .inv .few)
 
-cast-t22 : tie.Need-cast-t22 Inv-loop μ-loop
-cast-t22 c = search needs
+cast-t24 : tie.Need-cast-t24 Inv-loop μ-loop
+cast-t24 c = search needs
 
-shared-slice-read-t24 : tie.Need-shared-slice-read-t24 Inv-loop μ-loop
-shared-slice-read-t24 c = search needs
+shared-slice-read-t26 : tie.Need-shared-slice-read-t26 Inv-loop μ-loop
+shared-slice-read-t26 c = search needs
 
-cast-t22-2 : tie.Need-cast-t22-2 Inv-loop μ-loop
-cast-t22-2 c = search needs
+cast-t24-2 : tie.Need-cast-t24-2 Inv-loop μ-loop
+cast-t24-2 c = search needs
 
-shared-slice-read-t24-2 : tie.Need-shared-slice-read-t24-2 Inv-loop μ-loop
-shared-slice-read-t24-2 c = search needs
+shared-slice-read-t26-2 : tie.Need-shared-slice-read-t26-2 Inv-loop μ-loop
+shared-slice-read-t26-2 c = search needs
 
 marks-refused-requires : tie.Need-marks-refused-requires Inv-loop μ-loop
 marks-refused-requires c κs = search needs
@@ -116,38 +118,45 @@ returns-4 c =
     let r = read (c .before .before .before) in
     stop-says _ (bad-marks (r .before .before .loop .inv) (r .before .at .ensures) (r .if1 .left) (decided (c .before) ∙ c .if4 .taken))
 
-can-pass-requires : tie.Need-can-pass-requires Inv-loop μ-loop
-can-pass-requires c κs =
+row-across-requires : tie.Need-row-across-requires Inv-loop μ-loop
+row-across-requires c κs =
     let r = read (c .before .before .before) in
     let p = start r .pre .0 in
     met-byte (r .before .before .loop .inv) (met (c .before .before)) (p .level) (allowed c) (p .dimension)
 
+enum-known-across : tie.Need-enum-known-across Inv-loop μ-loop
+enum-known-across c = search needs
+
+enum-told : tie.Need-enum-told Inv-loop μ-loop
+enum-told c = search needs
+
 returns-5 : tie.Need-returns-5 Inv-loop μ-loop
 returns-5 c =
-    let r = read (c .before .before .before .before .before) in
-    stop-says _ (no-pass (r .before .before .loop .inv) (met (c .before .before .before .before)) (start r .pre .0 .level) (allowed (c .before .before)) (sym (c .before .can-pass .ensures) ∙ not-true (c .before .can-pass .result) (c .if5 .taken)))
+    let w = c .before .before .before in
+    let r = read (w .before .before .before) in
+    stop-says _ (no-pass (r .before .before .loop .inv) (met (w .before .before)) (start r .pre .0 .level) (allowed w) (goes-told (each (now (start r .args .delta)) (r .before .at .result)) (r .before .before .loop .t .0) (c .before .before .row-across .ensures) (c .enum-told .given .1)))
 
 returns-6 : tie.Need-returns-6 Inv-loop μ-loop
 returns-6 c =
-    let r = read (c .before .before .before .before .before .before) in
-    stop-says _ (long (r .before .before .loop .inv) (met (c .before .before .before .before .before)) (start r .pre .0 .level) (allowed (c .before .before .before)) (passed (c .before)) (c .if6 .taken))
+    let w = c .before .before .before .before .before in
+    let r = read (w .before .before .before) in
+    stop-says _ (long (r .before .before .loop .inv) (met (w .before .before)) (start r .pre .0 .level) (allowed w) (passed (c .before .before) .0) (c .if5 .taken))
 
-add-t24 : tie.Need-add-t24 Inv-loop μ-loop
-add-t24 c = omega (arith, c .before .before .before .before .before .before .if2 .left)
+add-t26 : tie.Need-add-t26 Inv-loop μ-loop
+add-t26 c = omega (arith, c .before .before .before .before .before .before .before .before .if2 .left)
 
 later-requires : tie.Need-later-requires Inv-loop μ-loop
 later-requires c κs = search needs
-
-across-requires : tie.Need-across-requires Inv-loop μ-loop
-across-requires c κs = can-pass-requires (c .before .before .before .before .before) κs
 
 loop-less : tie.Need-loop-less Inv-loop μ-loop
 loop-less c = omega (arith, read (marked (goes c)) .before .before .loop .inv .few)
 
 loop-again : tie.Need-loop-again Inv-loop μ-loop
 loop-again c =
+    let w = goes c .before .before .before .before .before in
     let r = read (marked (goes c)) in
-    passes (r .before .before .loop .inv) (met (goes c .before .before .before .before .before)) (start r .pre .0 .level) (allowed (goes c .before .before .before)) (passed (goes c .before)) (goes c .if6 .left) (c .across .ensures) (c .before .later .ensures)
+    let g = passed (goes c .before .before) in
+    passes (r .before .before .loop .inv) (met (w .before .before)) (start r .pre .0 .level) (allowed w) (g .0) (goes c .if5 .left) (g .1) (c .later .ensures)
 
 pub walk-spec : {M : Type 1} → statement M
 walk-spec =
@@ -161,20 +170,21 @@ walk-spec =
     at-requires
     returns
     add-count
-    cast-t22
-    shared-slice-read-t24
-    cast-t22-2
-    shared-slice-read-t24-2
+    cast-t24
+    shared-slice-read-t26
+    cast-t24-2
+    shared-slice-read-t26-2
     marks-refused-requires
     returns-2
     returns-3
     is-mark-requires
     returns-4
-    can-pass-requires
+    row-across-requires
+    enum-known-across
+    enum-told
     returns-5
     returns-6
-    add-t24
+    add-t26
     later-requires
-    across-requires
     loop-less
     loop-again)

@@ -1,13 +1,13 @@
 -- `reading::onward` meets its contract. The invariant: a dart was met by row t that is not on the level, the whole walk goes on from it, and one more than the largest Λ so far is the level so far. The measure: the reads that are left. Assumes nothing.
-use mathlib.Core.Path.{_≡_, refl, sym, _∙_}
-use mathlib.Core.Bool.{true}
+use mathlib.Core.Path.{refl}
 use Prim.Native.Nat.{ℕ, _+_, _-_, _*_, _<_}
 use native.Mathlib.Omega.{arith}
 use denote.Ref.{now}
 use borrow.Author.Needs.{needs}
-use borrow.Author.Tests.{not-true, not-false}
-use Rattle.maps.specs.Mark.{canPass}
 use Rattle.maps.specs.Table.{each}
+use Rattle.answers.specs.declared.Onward.the-variants.{By}
+use Rattle.answers.specs.Marked.{Goes}
+use Rattle.answers.proofs.Marked.{goes-told}
 use Rattle.reading.specs.Walks.{Allowed, Meets}
 use Rattle.reading.proofs.Walking.{entry-fits, Next, strays, arrives, arrived, Met, met-first, met-mark, met-no-pass, met-long, met-passes}
 use Rattle.reading.proofs.filling.onward.Statement.{statement}
@@ -29,22 +29,26 @@ start c = c .before .before .before .before .before
 met-here : (c : tie.At-loop Inv-loop μ-loop) → let a = start c .args in Met (now (a .rows)) (now (a .lambda)) (now (a .delta)) (a .n .0) (a .darts) (a .h .0) (a .level .0) (a .involution .0) (a .dart) (c .loop .t .0) (c .loop .from) (c .loop .count) (c .loop .largest + 1)
 met-here c = let a = start c .args in c .loop .inv .1 (a .n .0) (a .h .0) (start c .pre .0) (start c .pre .1)
 
--- where the loop begins a turn, from where the row to go on by is known
-abbrev turn : tie.After-across Inv-loop μ-loop → tie.At-loop Inv-loop μ-loop
-turn c = c .before .before .before .before .before
+-- how the walk goes on
+goes : (c : tie.After-across Inv-loop μ-loop) → let b = c .before .before .before .before in Goes (each (now (start b .args .delta)) (b .loop .from)) (b .loop .t .0) (By (c .across .given .0 .0))
+goes c = let b = c .before .before .before .before in goes-told (each (now (start b .args .delta)) (b .loop .from)) (b .loop .t .0) (c .before .before .row-across .ensures) (c .across .given .1)
 
--- the dart met can be passed
-passed : (c : tie.Else1 Inv-loop μ-loop) → let b = c .before .before .before in canPass (each (now (start b .args .delta)) (b .loop .from)) (b .loop .t .0) ≡ true
-passed c = sym (c .before .can-pass .ensures) ∙ not-false (c .before .can-pass .result) (c .if1 .left)
+-- where the loop begins a turn, from where the row to go on by is known and one more entry may be read
+abbrev turn : tie.Else1 Inv-loop μ-loop → tie.At-loop Inv-loop μ-loop
+turn c = c .before .before .before .before .before .before
 
--- it is passed, and the row on the other side is read next
-next : (c : tie.After-across Inv-loop μ-loop) (n h : ℕ) → let b = turn c in let a = start b .args in
+-- the row to go on by
+abbrev row : tie.Else1 Inv-loop μ-loop → ℕ
+row c = c .before .before .across .given .0 .0 .0
+
+-- the dart met is passed, and the row on the other side is read next
+next : (c : tie.Else1 Inv-loop μ-loop) (n h : ℕ) → let b = turn c in let a = start b .args in
     Allowed n (a .darts) h (now (a .rows)) (now (a .lambda)) (now (a .delta)) (a .level .0) → Meets (a .darts) (now (a .rows)) (now (a .lambda)) (a .level .0) n (a .involution .0) (a .dart) (a .met)
-    → Next (now (a .rows)) (now (a .lambda)) (now (a .delta)) n (a .darts) h (a .level .0) (a .involution .0) (a .dart) (c .across .result .0) (b .loop .from) (b .loop .count) (b .loop .largest + 1)
-next c n h p m = met-passes p (turn c .loop .inv .1 n h p m) (passed (c .before .before)) (c .before .if2 .left) (c .across .ensures)
+    → Next (now (a .rows)) (now (a .lambda)) (now (a .delta)) n (a .darts) h (a .level .0) (a .involution .0) (a .dart) (row c) (b .loop .from) (b .loop .count) (b .loop .largest + 1)
+next c n h p m = let g = goes (c .before .before) in met-passes p (turn c .loop .inv .1 n h p m) (g .0) (c .if1 .left) (g .1)
 
-next-here : (c : tie.After-across Inv-loop μ-loop) → let b = turn c in let a = start b .args in
-    Next (now (a .rows)) (now (a .lambda)) (now (a .delta)) (a .n .0) (a .darts) (a .h .0) (a .level .0) (a .involution .0) (a .dart) (c .across .result .0) (b .loop .from) (b .loop .count) (b .loop .largest + 1)
+next-here : (c : tie.Else1 Inv-loop μ-loop) → let b = turn c in let a = start b .args in
+    Next (now (a .rows)) (now (a .lambda)) (now (a .delta)) (a .n .0) (a .darts) (a .h .0) (a .level .0) (a .involution .0) (a .dart) (row c) (b .loop .from) (b .loop .count) (b .loop .largest + 1)
 next-here c = let b = turn c in next c (start b .args .n .0) (start b .args .h .0) (start b .pre .0) (start b .pre .1)
 
 mul-most : tie.Need-mul-most Inv-loop μ-loop
@@ -65,25 +69,28 @@ loop-holds c = (c .before .before .before .before .pre .1 .gone, λ n h p m. met
 shared-slice-read-own : tie.Need-shared-slice-read-own Inv-loop μ-loop
 shared-slice-read-own c = omega (arith, met-here (c .before) .meets .dart, start (c .before) .pre .0 .lent .delta-length)
 
-can-pass-requires : tie.Need-can-pass-requires Inv-loop μ-loop
-can-pass-requires c κs = met-mark (start (c .before) .pre .0) (met-here (c .before))
+row-across-requires : tie.Need-row-across-requires Inv-loop μ-loop
+row-across-requires c κs = met-mark (start (c .before) .pre .0) (met-here (c .before))
+
+enum-known-across : tie.Need-enum-known-across Inv-loop μ-loop
+enum-known-across c = search needs
+
+enum-told : tie.Need-enum-told Inv-loop μ-loop
+enum-told c = search needs
 
 cast-t28 : tie.Need-cast-t28 Inv-loop μ-loop
-cast-t28 c = omega (arith, met-here (c .before .before .before) .meets .dart)
+cast-t28 c = omega (arith, met-here (c .before .before .before .before) .meets .dart)
 
 returns : tie.Need-returns Inv-loop μ-loop
 returns c =
-    let b = c .before .before .before in
-    record { number = 14; row = b .loop .t .0; dart = b .loop .from; is = met-no-pass (start b .pre .0) (met-here b) (sym (c .before .can-pass .ensures) ∙ not-true (c .before .can-pass .result) (c .if1 .taken)); said = refl }
+    let b = c .before .before .before .before in
+    record { number = 14; row = b .loop .t .0; dart = b .loop .from; is = met-no-pass (start b .pre .0) (met-here b) (goes-told (each (now (start b .args .delta)) (b .loop .from)) (b .loop .t .0) (c .before .before .row-across .ensures) (c .enum-told .given .1)); said = refl }
 
 returns-2 : tie.Need-returns-2 Inv-loop μ-loop
 returns-2 c =
-    let b = c .before .before .before .before in
+    let b = c .before .before .before .before .before .before in
     let a = start b .args in
-    record { number = 15; row = a .involution .0; dart = a .dart; is = met-long (start b .pre .0) (met-here b) (passed (c .before)) (c .if2 .taken); said = refl }
-
-across-requires : tie.Need-across-requires Inv-loop μ-loop
-across-requires c κs = can-pass-requires (c .before .before .before) κs
+    record { number = 15; row = a .involution .0; dart = a .dart; is = met-long (start b .pre .0) (met-here b) (goes (c .before .before) .0) (c .if1 .taken); said = refl }
 
 cast-at : tie.Need-cast-at Inv-loop μ-loop
 cast-at c = omega (arith, next-here c .dart)
@@ -91,13 +98,13 @@ cast-at c = omega (arith, next-here c .dart)
 at-requires : tie.Need-at-requires Inv-loop μ-loop
 at-requires c κs = entry-fits (start (turn c) .pre .0 .lent) (next-here c .row) (next-here c .dart)
 
-cast-t32 : tie.Need-cast-t32 Inv-loop μ-loop
-cast-t32 c = cast-at (c .before .before)
+cast-t33 : tie.Need-cast-t33 Inv-loop μ-loop
+cast-t33 c = cast-at (c .before .before)
 
 returns-3 : tie.Need-returns-3 Inv-loop μ-loop
 returns-3 c =
     let b = turn (c .before .before) in
-    record { number = 5; row = c .before .before .across .result .0; dart = b .loop .from; is = strays (next-here (c .before .before)) (c .before .at .ensures) (c .if3 .taken); said = refl }
+    record { number = 5; row = row (c .before .before); dart = b .loop .from; is = strays (next-here (c .before .before)) (c .before .at .ensures) (c .if2 .taken); said = refl }
 
 add-count : tie.Need-add-count Inv-loop μ-loop
 add-count c = omega (arith, next-here (c .before .before) .few)
@@ -106,28 +113,28 @@ cast-to : tie.Need-cast-to Inv-loop μ-loop
 cast-to c = search needs
 
 shared-slice-read-own-2 : tie.Need-shared-slice-read-own-2 Inv-loop μ-loop
-shared-slice-read-own-2 c = omega (arith, c .before .if3 .left, start (turn (c .before .before .before)) .pre .0 .lent .lambda-length)
+shared-slice-read-own-2 c = omega (arith, c .before .if2 .left, start (turn (c .before .before .before)) .pre .0 .lent .lambda-length)
 
-add-t35 : tie.Need-add-t35 Inv-loop μ-loop
-add-t35 c = omega (arith, turn (c .before .before .before .before .before) .loop .inv .0)
+add-t36 : tie.Need-add-t36 Inv-loop μ-loop
+add-t36 c = omega (arith, turn (c .before .before .before .before .before) .loop .inv .0)
 
-cast-t36 : tie.Need-cast-t36 Inv-loop μ-loop
-cast-t36 c = omega (arith, turn (c .before .before .before .before .before) .loop .inv .0)
+cast-t37 : tie.Need-cast-t37 Inv-loop μ-loop
+cast-t37 c = omega (arith, turn (c .before .before .before .before .before) .loop .inv .0)
 
 returns-4 : tie.Need-returns-4 Inv-loop μ-loop
 returns-4 c =
     let x = next-here (c .before .before .before .before .before) in
     let at = c .before .before .before .before .at in
-    let e = c .before .before .before .if3 .left in
+    let e = c .before .before .before .if2 .left in
     record {
-      row = c .before .before .before .before .before .across .result .0;
-      is = arrives x (at .ensures) e (start (turn (c .before .before .before .before .before)) .pre .0 .allowed (at .result) e) (c .if4 .taken);
+      row = row (c .before .before .before .before .before);
+      is = arrives x (at .ensures) e (start (turn (c .before .before .before .before .before)) .pre .0 .allowed (at .result) e) (c .if3 .taken);
       few = omega (arith, x .few);
-      stands = arrived x (at .ensures) (c .if4 .taken);
+      stands = arrived x (at .ensures) (c .if3 .taken);
     }
 
 cast-larger : tie.Need-cast-larger Inv-loop μ-loop
-cast-larger c = omega (arith, c .if4 .left)
+cast-larger c = omega (arith, c .if3 .left)
 
 larger-requires : tie.Need-larger-requires Inv-loop μ-loop
 larger-requires c κs = search needs
@@ -137,11 +144,11 @@ loop-less c = omega (arith, next-here (c .before .before .before .before .before
 
 loop-again : tie.Need-loop-again Inv-loop μ-loop
 loop-again c = (
-  omega (arith, c .larger .ensures, c .before .if4 .left, turn (c .before .before .before .before .before .before) .loop .inv .0),
+  omega (arith, c .larger .ensures, c .before .if3 .left, turn (c .before .before .before .before .before .before) .loop .inv .0),
   λ n h p m.
       let x = next (c .before .before .before .before .before .before) n h p m in
       let b = turn (c .before .before .before .before .before .before) in
-      record { source = b .loop .from; before = b .loop .count; so-far = b .loop .largest + 1; next = x; reads = refl; meets = record { row = x .row; start = x .dart; read = c .before .before .before .before .before .at .ensures; dart = c .before .before .before .before .if3 .left; gone = c .before .if4 .left }; raise = omega (arith, c .larger .ensures) },
+      record { source = b .loop .from; before = b .loop .count; so-far = b .loop .largest + 1; next = x; reads = refl; meets = record { row = x .row; start = x .dart; read = c .before .before .before .before .before .at .ensures; dart = c .before .before .before .before .if2 .left; gone = c .before .if3 .left }; raise = omega (arith, c .larger .ensures) },
 )
 
 pub onward-spec : {M : Type 1} → statement M
@@ -156,20 +163,21 @@ onward-spec =
     cast-largest
     loop-holds
     shared-slice-read-own
-    can-pass-requires
+    row-across-requires
+    enum-known-across
+    enum-told
     cast-t28
     returns
     returns-2
-    across-requires
     cast-at
     at-requires
-    cast-t32
+    cast-t33
     returns-3
     add-count
     cast-to
     shared-slice-read-own-2
-    add-t35
-    cast-t36
+    add-t36
+    cast-t37
     returns-4
     cast-larger
     larger-requires

@@ -1,4 +1,4 @@
--- `kernels::testing::removable` meets its contract. The invariant: the darts of the kernel passed commute. The measure is the darts left. Assumes nothing.
+-- `kernels::testing::fitting` meets its contract. The invariant: the darts of the kernel passed commute. The measure is the darts left. Assumes nothing.
 use mathlib.Core.Path.{sym, _∙_}
 use Prim.Native.Nat.{_-_}
 use native.Mathlib.Omega.{arith}
@@ -6,8 +6,8 @@ use denote.Ref.{now}
 use Rattle.maps.specs.Check.{check10}
 use Rattle.kernels.specs.Strings.{kernelRow}
 use Rattle.kernels.proofs.Tests.{Walk, walk-start, walk-all, walk-marked, walk-inside, walk-rooms, walk-further, ten, ten-free, ten-passed, ten-refused}
-use Rattle.kernels.proofs.testing.removable.Statement.{statement}
-use Rattle.kernels.proofs.testing.removable.Tie as tie
+use Rattle.kernels.proofs.testing.fitting.Statement.{statement}
+use Rattle.kernels.proofs.testing.fitting.Tie as tie
 
 abbrev Inv-loop : tie.InvT-loop
 Inv-loop n darts l lambda delta next first table d₀ d = Walk (n .0) darts (l .0) first lambda delta next table (ten (n .0) darts (l .0) (kernelRow lambda delta (l .0)) table) d
@@ -57,8 +57,8 @@ returns-2 : tie.Need-returns-2 Inv-loop μ-loop
 unfolding check10
 returns-2 c = sym (walk-all (c .before .loop .inv) (c .loop-test .left))
 
-pub removable-spec : {M : Type 1} → statement M
-removable-spec =
+pub fitting-spec : {M : Type 1} → statement M
+fitting-spec =
     tie.close
     (tie.spec
     Inv-loop
