@@ -1,5 +1,5 @@
-/* The maps that the jobs are measured on: grids of cubes, and pyramids by removing some of their removable cells, in
- * some of them also by contracting contractible ones. */
+/* The maps that the jobs are measured on: grids of cubes and rings, and pyramids by removing some of their removable
+ * cells, in some of them also by contracting contractible ones. */
 #include "maps.h"
 #include "plain.h"
 
@@ -14,6 +14,7 @@ struct form {
     unsigned levels, percent;          /* how many levels, and how many of the cells that fit go in each */
     int shuffled;                      /* darts numbered at random */
     int contracted;                    /* every kernel has cells of both kinds */
+    int ring;                          /* a ring of so many darts in place of a grid */
 };
 
 static const struct form forms[] = {
@@ -36,6 +37,8 @@ static const struct form forms[] = {
     {"both2", 2, {16, 32, 1, 1}, {0}, {0}, 8, 15, 0, 1},
     {"both3", 3, {3, 4, 7, 1}, {0}, {0}, 9, 15, 0, 1},
     {"both4", 4, {1, 1, 2, 5}, {0}, {0}, 8, 15, 0, 1},
+    {"cycle", 1, {0}, {0}, {0}, 1, 99, 1, 0, 4096},
+    {"vertex", 2, {0}, {0}, {0}, 1, 99, 1, 0, 4096},
 };
 
 static uint64_t random_state;
@@ -142,6 +145,21 @@ static void make_grid(const struct form *f, struct pyramid *p)
     for (unsigned cube = 0; cube < all; cube++)
         if (number[cube] != ZG_ABSENT)
             link_cube(f, number, cube, p);
+}
+
+/* The last two rows lead round a ring of all darts: a cycle for n = 1, and for n = 2 one vertex, whose edges join its
+ * opposite sides. With nearly all cells of dimension n-1 in one kernel, walks are long. */
+static void make_ring(const struct form *f, struct pyramid *p)
+{
+    unsigned darts = (unsigned)f->ring;
+    p->n = (uint8_t)f->n;
+    p->h = 0;
+    p->darts = (uint16_t)darts;
+    for (unsigned d = 0; d < darts; d++) {
+        p->rows[d] = (uint16_t)((d + darts / 2) % darts);
+        p->rows[(f->n - 1) * darts + d] = (uint16_t)(d ^ 1);
+        p->rows[f->n * darts + d] = (uint16_t)((d & 1 ? d + 1 : d + darts - 1) % darts);
+    }
 }
 
 static void shuffle_darts(struct pyramid *p)
@@ -251,7 +269,10 @@ int make_pyramid(struct pyramid *p, const char *name)
     for (const struct form *f = forms; f < forms + sizeof forms / sizeof *forms; f++)
         if (!strcmp(f->name, name)) {
             random_state = 1;
-            make_grid(f, p);
+            if (f->ring)
+                make_ring(f, p);
+            else
+                make_grid(f, p);
             if (f->shuffled)
                 shuffle_darts(p);
             add_levels(p, f);

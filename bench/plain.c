@@ -175,8 +175,9 @@ __attribute__((noinline)) static unsigned walk_on(const uint16_t *table, const u
     return met;
 }
 
-/* Walks run over entries of the kernel's darts alone, so the survivors' entries can be set in place; those of the
- * kernel's darts go when all walks have ended. */
+/* Walks run over entries of the kernel's darts alone, so the survivors' entries can be set in place, at both ends of a
+ * link at once: a survivor that no longer leads back has its link already. The entries of the kernel's darts go when all
+ * walks have ended. */
 static void remove_kernel(unsigned n, unsigned darts, uint16_t *table, const uint16_t *mark, const uint16_t *kernel,
                           unsigned size, const struct way *ways)
 {
@@ -185,7 +186,7 @@ static void remove_kernel(unsigned n, unsigned darts, uint16_t *table, const uin
         const struct way *w = ways + own % WAYS;
         uint16_t *a = table + w->own;
         unsigned survivor = a[met];
-        if (same_kernel(mark[survivor], own))
+        if (same_kernel(mark[survivor], own) || a[survivor] != met)
             continue;
         const uint16_t *b = table + w->other;
         do
@@ -194,6 +195,7 @@ static void remove_kernel(unsigned n, unsigned darts, uint16_t *table, const uin
         if (UNLIKELY(same_kernel(mark[met], own)))
             met = walk_on(table, mark, ways, met);
         a[survivor] = (uint16_t)met;
+        a[met] = (uint16_t)survivor;
     }
     for (unsigned i = 0; i <= n; i++)
         for (unsigned k = 0; k < size; k++)

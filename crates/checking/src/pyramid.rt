@@ -6,8 +6,9 @@ use answers::Level;
 use answers::Mark;
 use answers::Refusal;
 ghost use mathlib.Core.Path.{_≡_};
-ghost use mathlib.Core.Bool.{cond, _&&_, not};
-ghost use Prim.Native.Nat.{suc, _*_, _≤_};
+ghost use mathlib.Core.Bool.{false, cond, _&&_, not};
+ghost use mathlib.Core.List.{[]};
+ghost use Prim.Native.Nat.{ℕ, suc, _*_, _≤_, _<_};
 ghost use lib.ListN.{length};
 ghost use lib.Dec.{eqb};
 ghost use Rattle.maps.specs.Mark.{isMark, stay};
@@ -16,7 +17,7 @@ ghost use Rattle.maps.specs.Folded.{addΛ, addΔ};
 ghost use Rattle.maps.specs.MarkRow.{Row};
 ghost use Rattle.maps.specs.Verdict.{accepted};
 ghost use Rattle.maps.specs.CheckPyramid.{checkLent, checkLeaves};
-ghost use Rattle.maps.specs.AddLevel.{addLent, addHeight, addLambda, addDelta, addLeaves};
+ghost use Rattle.maps.specs.AddLevel.{refusedMark, addLent, addHeight, addLambda, addDelta, addLeaves};
 ghost use Rattle.answers.specs.Numbers.{verdictOf};
 ghost use Rattle.checking.specs.Climb.{lentSizes, baseSizes, Base, baseAndMarks};
 ghost use Rattle.checking.specs.Added.{addSizes, rowMarks, addMarks, ascends, ascendLeaves};
@@ -124,8 +125,21 @@ fn mark_refused(n: Dim, h: Level, lambda: Level, mark: Mark) -> bool
     mark.0 != 255
 }
 
-// Number 8 of the mark row, over darts, with level h.
-fn row_checked(n: Dim, darts: u16, h: Level, lambda: &[u8], row: &[u8]) -> Check
+// Is any entry of the mark row refused? No branch for each dart, so that many are tested at once.
+fn any_refused(n: Dim, h: Level, lambda: &[u8], row: &[u8]) -> bool
+    requires { ⌜ length (now lambda) ≡ length (now row) ⌝ }
+    ensures { λ r. ⌜ (r ≡ false → (x : ℕ) → x < length (now (row .entry)) → refusedMark (n .0) (length (now (row .entry))) (h .0) [] (now (lambda .entry)) [] (now (row .entry)) [] x ≡ false) ⌝ }
+{
+    let mut any = false;
+    for at in 0..row.len() {
+        let refused = mark_refused(n, h, Level(lambda[at]), Mark(row[at]));
+        any = any | refused;
+    }
+    any
+}
+
+// The first dart whose entry is refused, with level h.
+fn first_refused(n: Dim, darts: u16, h: Level, lambda: &[u8], row: &[u8]) -> Check
     requires { ⌜ (length (now lambda) ≡ darts) × (length (now row) ≡ darts) ⌝ }
     ensures { λ r. ⌜ verdictOf r ≡ rowMarks (n .0) darts (h .0) (now (lambda .entry)) (now (row .entry)) ⌝ }
 {
@@ -134,6 +148,17 @@ fn row_checked(n: Dim, darts: u16, h: Level, lambda: &[u8], row: &[u8]) -> Check
         if mark_refused(n, h, Level(lambda[at]), Mark(row[at])) {
             return Check::Refused(Refusal::Marks(h, Dim(0), d));
         }
+    }
+    Check::Accepted
+}
+
+// Number 8 of the mark row; the dart is sought only if there is one.
+fn row_checked(n: Dim, darts: u16, h: Level, lambda: &[u8], row: &[u8]) -> Check
+    requires { ⌜ (length (now lambda) ≡ darts) × (length (now row) ≡ darts) ⌝ }
+    ensures { λ r. ⌜ verdictOf r ≡ rowMarks (n .0) darts (h .0) (now (lambda .entry)) (now (row .entry)) ⌝ }
+{
+    if any_refused(n, h, lambda, row) {
+        return first_refused(n, darts, h, lambda, row);
     }
     Check::Accepted
 }

@@ -1,13 +1,13 @@
 -- A kernel in the document's words is one that walks can pass, and its removal is the map without it. Assumes nothing.
-use mathlib.Core.Path.{_≡_, refl, sym, _∙_}
+use mathlib.Core.Path.{_≡_, refl, sym, _∙_, fun-ext}
 use mathlib.Core.Bool.{Bool, true, false}
-use Prim.Native.Nat.{ℕ, zero, suc}
+use Prim.Native.Nat.{ℕ, zero, suc, _<_}
 use lib.Dec.{eqb}
 use Rattle.maps.specs.Map.{Involutions, Valid}
 use Rattle.maps.specs.Mark.{isMark, contracts, between}
 use Rattle.maps.specs.Kernel.{Kernel}
 use Rattle.maps.specs.Removal.{goOn, removal}
-use Rattle.facts.proofs.Removals.{Passing, along, without}
+use Rattle.facts.proofs.Removals.{Passing, along, without, without-valid}
 use Rattle.facts.proofs.ByKind.{KernelOf, passing-of}
 use Rattle.laws.proofs.Marks.{onto, removed-rows, contracted-rows, mark-range, second-row}
 
@@ -53,3 +53,12 @@ module _ (a : Involutions) (n : ℕ) (mark dim via : ℕ → ℕ) (rows : (d : �
               (w .0, rows (a j d) (w .0) .0 ∙ w .1 ∙ sym (rows d q .0), other (a j d) (w .0) ∙ w .2 ∙ sym (other d q));
           pass = λ d j p q lj f. rw (other d q) (r .pass d j p q lj (rw (rows d q .0) at f));
         }
+
+-- what a kernel leaves of a valid map is a valid map
+pub removal-valid : (a : Involutions) (n : ℕ) (mark : ℕ → ℕ) (present : ℕ → Type 0) → Valid a n present → Kernel a n present mark → (N : ℕ) → ((d : ℕ) → present d → d < N) → Valid (removal a n mark N) n (λ d. present d × (isMark n (mark d) ≡ false))
+removal-valid a n mark present m k N bound =
+    let dim : ℕ → ℕ = λ d. between (mark d) .0 in
+    let via : ℕ → ℕ = λ d. between (mark d) .1 in
+    let rows : (d : ℕ) → isMark n (mark d) ≡ true → (dim d ≡ between (mark d) .0) × (via d ≡ between (mark d) .1) = λ d q. (refl, refl) in
+    let v = without-valid a n present m dim via (λ d. isMark n (mark d)) (passing a n mark dim via rows present m k) N bound in
+    rw (fun-ext (λ i. fun-ext (λ b. removal-without a n mark dim via rows N i b))) v

@@ -2,5 +2,6 @@ pub mod Strung
 mod Places
 mod Tests
 mod Clearing
+mod Links
 mod Relinks
 mod Steps

@@ -6,6 +6,7 @@ use Prim.Native.Nat.{ℕ, suc, _+_, _*_, _<_, _≤_}
 use lib.ListN.{length}
 use lib.Dec.{ltb}
 use Rattle.maps.specs.Verdict.{ifAccepted}
+use Rattle.maps.specs.Count.{count}
 use Rattle.maps.specs.Mark.{isMark, between}
 use Rattle.maps.specs.Kernel.{Kernel}
 use Rattle.maps.specs.Removal.{goOn, removal}
@@ -51,6 +52,17 @@ left n N mark table d = present N table d && not (isMark n (mark d))
 -- an entry below N of a dart that is not marked leads on past the marks; every other entry stays
 unfoldable pub relinked : ℕ → ℕ → (ℕ → ℕ) → List ℕ → ℕ → ℕ → ℕ
 relinked n N mark table i d = cond (ltb (entry N table i d) N && not (isMark n (mark d))) (goOn (entry N table) n mark N i (entry N table i d)) (entry N table i d)
+
+-- does a link between survivors pass dart d first? It is in the kernel, its mark's first row leads to a survivor, and the dart that the link passes last has no lower number
+unfoldable pub firstOfLink : ℕ → ℕ → (ℕ → ℕ) → List ℕ → ℕ → Bool
+firstOfLink n N mark table d =
+    isMark n (mark d)
+    && (not (isMark n (mark (entry N table (between (mark d) .0) d)))
+    && not (ltb (entry N table (between (mark d) .0) (goOn (entry N table) n mark N (between (mark d) .0) d)) d))
+
+-- how many links between survivors the kernel makes, each counted at one end
+unfoldable pub linksMade : ℕ → ℕ → (ℕ → ℕ) → List ℕ → ℕ
+linksMade n N mark table = count (firstOfLink n N mark table) N
 
 -- the table after, with f at every entry
 pub record TableIs (N : ℕ) (f : ℕ → ℕ → ℕ) (before after : List ℕ) : Type 0 where

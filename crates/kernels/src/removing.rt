@@ -11,9 +11,10 @@ ghost use Prim.Native.Nat.{ℕ, _+_, _*_, _<_, _≤_};
 ghost use lib.ListN.{set};
 ghost use lib.Dec.{eqb, ltb};
 ghost use Rattle.maps.specs.Removal.{goOn};
-ghost use Rattle.maps.specs.Table.{entry};
+ghost use Rattle.maps.specs.Mark.{between as betweenOf};
+ghost use Rattle.maps.specs.Table.{entry, each};
 ghost use Rattle.kernels.specs.Strings.{kernelRow, Along, Strings, Marks, Strung};
-ghost use Rattle.kernels.specs.Ready.{Shape, Place, Ready, Followed, relinked, TableIs, Cleared, removedFrom};
+ghost use Rattle.kernels.specs.Ready.{Shape, Place, Ready, Followed, relinked, linksMade, TableIs, Cleared, removedFrom};
 
 // The entry of dart d in row i is stored.
 fn put(darts: usize, i: Dim, d: usize, entry: u16, table: &mut [u16])
@@ -23,7 +24,16 @@ fn put(darts: usize, i: Dim, d: usize, entry: u16, table: &mut [u16])
     table[i.0 as usize * darts + d] = entry;
 }
 
-// From dart start, while there is a dart of kernel l whose mark has the first row i: on by the second row of that mark, then by row i.
+// The link between b and e in row i is stored, at both ends.
+fn join(darts: usize, i: Dim, b: usize, e: usize, table: &mut [u16])
+    requires { ⌜ Place darts (now table) (i .0) b × Place darts (now table) (i .0) e ⌝ }
+    ensures { λ _. ⌜ now (table .exit) ≡ set (set (now (table .entry)) (i .0 * darts + b) e) (i .0 * darts + e) b ⌝ }
+{
+    put(darts, i, b, e as u16, table);
+    put(darts, i, e, b as u16, table);
+}
+
+// From dart start, while there is a dart of kernel l whose mark has the first row i, as that of start has: on by the second row of that mark, then by row i. The rows of a mark are found anew only where it changes.
 fn follow(
     n: Dim,
     darts: usize,
@@ -35,26 +45,32 @@ fn follow(
     start: usize,
 ) -> usize
     requires { ⌜ Marks (n .0) darts (l .0) (now lambda) (now delta) × Followed (n .0) darts (kernelRow (now lambda) (now delta) (l .0)) (now table) ⌝ }
-    requires { ⌜ (i .0 ≤ n .0) × (start < darts) ⌝ }
+    requires { ⌜ (i .0 ≤ n .0) × (start < darts) × (each (now lambda) start ≡ l .0) × (betweenOf (each (now delta) start) .0 ≡ i .0) ⌝ }
     ensures { λ r. ⌜ (r ≡ goOn (entry darts (now (table .entry))) (n .0) (kernelRow (now (lambda .entry)) (now (delta .entry)) (l .0)) darts (i .0) start) × (r < darts) ⌝ }
 {
+    let mut mark = mark_of(delta, start);
+    let mut rows = answers::between(mark);
     let mut times = darts;
     let mut e = start;
     while 0 < times {
+        e = at(darts, table, i, at(darts, table, rows.1, e));
+        times = times - 1;
         if !removed(lambda, l, e) {
             return e;
         }
-        let rows = answers::between(mark_of(delta, e));
-        if rows.0.0 != i.0 {
-            return e;
+        let met = mark_of(delta, e);
+        if met.0 != mark.0 {
+            mark = met;
+            rows = answers::between(mark);
+            if rows.0.0 != i.0 {
+                return e;
+            }
         }
-        e = at(darts, table, i, at(darts, table, rows.1, e));
-        times = times - 1;
     }
     e
 }
 
-// Survivors relinked, from the darts of kernel l: where one leads to a survivor by its mark's first row, the survivor's entry leads on past the marks.
+// Survivors relinked, from the darts of kernel l: where one leads to a survivor by its mark's first row, the survivor is linked to the one past the marks. A survivor that no longer leads back has its link from the other end. The answer is how many links were followed.
 fn relink(
     n: Dim,
     darts: usize,
@@ -64,22 +80,28 @@ fn relink(
     next: &[u16; 4096],
     first: u16,
     table: &mut [u16],
-)
+) -> usize
     requires { ⌜ Ready (n .0) darts (kernelRow (now lambda) (now delta) (l .0)) (now table) ⌝ }
     requires { ⌜ Strung (n .0) darts (l .0) first (now lambda) (now delta) (now next) ⌝ }
+    ensures { λ r. ⌜ r ≡ linksMade (n .0) darts (kernelRow (now (lambda .entry)) (now (delta .entry)) (l .0)) (now (table .entry)) ⌝ }
     ensures { λ _. ⌜ TableIs darts (relinked (n .0) darts (kernelRow (now (lambda .entry)) (now (delta .entry)) (l .0)) (now (table .entry))) (now (table .entry)) (now (table .exit)) ⌝ }
 {
+    let mut links = 0;
     let mut d = first as usize;
     while d < darts {
         let rows = answers::between(mark_of(delta, d));
         let i = rows.0;
         let b = at(darts, table, i, d);
         if !removed(lambda, l, b) {
-            let end = follow(n, darts, l, lambda, delta, table, i, d);
-            put(darts, i, b, end as u16, table);
+            if at(darts, table, i, b) == d {
+                let end = follow(n, darts, l, lambda, delta, table, i, d);
+                join(darts, i, b, end, table);
+                links = links + 1;
+            }
         }
         d = next_of(next, d);
     }
+    links
 }
 
 // Row i cleared: 65,535 at the darts strung from the first on, whichever these are.

@@ -72,15 +72,12 @@ pub fn whole(
     found
 }
 
-// Number 10 of one dart of this mark: does it end at the same place by the mark's second row and then the row beyond it as in the other order?
+// Number 10 of one dart of this mark, which has a row beyond: does it end at the same place by the mark's second row and then the row beyond it as in the other order?
 fn commuting(n: Dim, darts: usize, table: &[u16], mark: Mark, d: usize) -> bool
-    requires { ⌜ Shape (n .0) darts (now table) × (isMark (n .0) (mark .0) ≡ true) × (d < darts) ⌝ }
+    requires { ⌜ Shape (n .0) darts (now table) × (isMark (n .0) (mark .0) ≡ true) × (d < darts) × (hasBeyond (n .0) (mark .0) ≡ true) ⌝ }
     requires { ⌜ ((t : ℕ) → t ≤ n .0 → entry darts (now table) t d < darts) ⌝ }
     ensures { λ r. ⌜ not r ≡ (hasBeyond (n .0) (mark .0) && differs (entry darts (now (table .entry))) (n .0) darts (λ _. mark .0) 0 d) ⌝ }
 {
-    if !answers::has_beyond(n, mark) {
-        return true;
-    }
     let rows = answers::between(mark);
     let near = rows.1;
     let far = answers::beyond(n, mark);
@@ -91,7 +88,7 @@ fn commuting(n: Dim, darts: usize, table: &[u16], mark: Mark, d: usize) -> bool
     one == other
 }
 
-// Number 10: the first dart of the kernel whose own commuting test fails.
+// Number 10: the first dart of the kernel whose own commuting test fails. Whether a mark has a row beyond is found anew only where it changes.
 pub fn fitting(
     n: Dim,
     darts: usize,
@@ -106,13 +103,21 @@ pub fn fitting(
     requires { ⌜ Strung (n .0) darts (l .0) first (now lambda) (now delta) (now next) ⌝ }
     ensures { λ r. ⌜ verdictOf r ≡ check10 (entry darts (now (table .entry))) (n .0) darts (kernelRow (now (lambda .entry)) (now (delta .entry)) (l .0)) (l .0) ⌝ }
 {
+    let mut mark = Mark(255);
+    let mut tested = answers::has_beyond(n, mark);
     let mut d = first as usize;
     while d < darts {
-        let mark = mark_of(delta, d);
-        if !commuting(n, darts, table, mark, d) {
-            let rows = answers::between(mark);
-            let second = rows.1;
-            return Check::Refused(Refusal::NotRemovable(l, second, d as u16));
+        let met = mark_of(delta, d);
+        if met.0 != mark.0 {
+            mark = met;
+            tested = answers::has_beyond(n, mark);
+        }
+        if tested {
+            if !commuting(n, darts, table, mark, d) {
+                let rows = answers::between(mark);
+                let second = rows.1;
+                return Check::Refused(Refusal::NotRemovable(l, second, d as u16));
+            }
         }
         d = next_of(next, d);
     }

@@ -1,81 +1,28 @@
--- `checking::pyramid::row_checked` meets its contract. The invariant: the marks of the darts passed are not refused. The measure is the darts left. Assumes nothing.
-use mathlib.Core.Path.{_≡_, refl, sym, ap, _∙_}
-use mathlib.Core.Bool.{Bool, true, false}
+-- `checking::pyramid::row_checked` meets its contract. Assumes nothing.
+use mathlib.Core.Path.{sym}
 use mathlib.Core.List.{[]}
-use Prim.Native.Nat.{_-_, _≤_, zero-le}
 use native.Mathlib.Omega.{arith}
 use denote.Ref.{now}
 use borrow.Author.Needs.{needs}
-use Rattle.maps.specs.Verdict.{accepted, refused, when, scan}
 use Rattle.maps.specs.AddLevel.{atRow8}
-use Rattle.laws.proofs.Verdicts.{scan-first, scan-more}
+use Rattle.laws.proofs.Verdicts.{scan-all}
 use Rattle.checking.proofs.pyramid.row_checked.Statement.{statement}
 use Rattle.checking.proofs.pyramid.row_checked.Tie as tie
 
-abbrev Inv-loop : tie.InvT-loop
-Inv-loop n darts h lambda row d₀ d = (d ≤ darts) × (scan d (atRow8 (n .0) darts (h .0) [] lambda [] row []) ≡ accepted)
+any-refused-requires : tie.Need-any-refused-requires
+any-refused-requires c κs = search needs
 
-abbrev μ-loop : tie.MeasureT-loop
-μ-loop n darts h lambda row d₀ d = darts - d
+first-refused-requires : tie.Need-first-refused-requires
+first-refused-requires c κs = search needs
 
--- the head of the loop, and what number 8 says of its dart
-abbrev head : tie.After-mark-refused Inv-loop μ-loop → tie.At-loop Inv-loop μ-loop
-head c = c .before .before .before .before
+returns : tie.Need-returns
+returns c = c .first-refused .ensures
 
-here : (c : tie.After-mark-refused Inv-loop μ-loop) (t : Bool) → c .mark-refused .result ≡ t → let a = head c .before .before .before .args in atRow8 (a .n .0) (a .darts) (a .h .0) [] (now (a .lambda)) [] (now (a .row)) [] (head c .loop .d) ≡ when t (refused 8 (a .h .0) 0 (head c .loop .d))
+returns-2 : tie.Need-returns-2
 unfolding atRow8
-here c t e = let h = head c in ap (λ (t : Bool). when t (refused 8 (h .before .before .before .args .h .0) 0 (h .loop .d))) (sym (c .mark-refused .ensures) ∙ e)
-
-loop-holds : tie.Need-loop-holds Inv-loop μ-loop
-unfolding scan
-loop-holds c = (zero-le, refl)
-
-cast-at : tie.Need-cast-at Inv-loop μ-loop
-cast-at c = search needs
-
-shared-slice-read-t11 : tie.Need-shared-slice-read-t11 Inv-loop μ-loop
-shared-slice-read-t11 c = search needs
-
-shared-slice-read-t14 : tie.Need-shared-slice-read-t14 Inv-loop μ-loop
-shared-slice-read-t14 c = search needs
-
-mark-refused-requires : tie.Need-mark-refused-requires Inv-loop μ-loop
-mark-refused-requires c κs = search needs
-
-returns : tie.Need-returns Inv-loop μ-loop
-returns c =
-    let h = head (c .before) in
-    let a = h .before .before .before .args in
-    sym (scan-first (a .darts) (atRow8 (a .n .0) (a .darts) (a .h .0) [] (now (a .lambda)) [] (now (a .row)) []) (h .loop .d) 8 (a .h .0) 0 (h .loop .d) (omega arith) (h .loop .inv .1) (here (c .before) true (c .if1 .taken)))
-
-add-d : tie.Need-add-d Inv-loop μ-loop
-add-d c = search needs
-
-loop-less : tie.Need-loop-less Inv-loop μ-loop
-loop-less c = search needs
-
-loop-again : tie.Need-loop-again Inv-loop μ-loop
-loop-again c = let l = head (c .before) .loop in (omega arith, scan-more _ (l .d) (l .inv .1) (here (c .before) false (c .if1 .left)))
-
-returns-2 : tie.Need-returns-2 Inv-loop μ-loop
 returns-2 c =
-    let l = c .before .loop in
-    let z : l .d ≡ c .before .before .before .before .args .darts = omega arith in
-    sym (rw z at (l .inv .1))
+    let a = c .before .before .before .before .args in
+    sym (scan-all (a .darts) (atRow8 (a .n .0) (a .darts) (a .h .0) [] (now (a .lambda)) [] (now (a .row)) []) (λ x l. rw (c .before .any-refused .ensures (c .if1 .left) x (omega arith))))
 
 pub row-checked-spec : {M : Type 1} → statement M
-row-checked-spec =
-    tie.close
-    (tie.spec
-    Inv-loop
-    μ-loop
-    loop-holds
-    cast-at
-    shared-slice-read-t11
-    shared-slice-read-t14
-    mark-refused-requires
-    returns
-    add-d
-    loop-less
-    loop-again
-    returns-2)
+row-checked-spec = tie.close (tie.spec any-refused-requires first-refused-requires returns returns-2)

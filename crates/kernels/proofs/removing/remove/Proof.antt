@@ -13,7 +13,7 @@ relink-requires : tie.Need-relink-requires
 relink-requires c κs = search needs
 
 clear-requires : tie.Need-clear-requires
-clear-requires c κs = let r = c .before .before .before in let p = start r .pre in ((_, p .1 .string), shape-still (p .0 .tested .shape) (r .relink .ensures .long))
+clear-requires c κs = let r = c .before .before .before in let p = start r .pre in ((_, p .1 .string), shape-still (p .0 .tested .shape) (r .relink .ensures .1 .long))
 
 same-length : tie.Need-same-length
 same-length c = search needs
@@ -21,7 +21,7 @@ same-length c = search needs
 returns : tie.Need-returns
 returns c =
     let r : tie.After-relink = c .before .before .before .before .before .before in
-    removed-is (start r .pre .0) (r .relink .ensures) (c .before .before .clear .ensures _ (start r .pre .1 .string))
+    removed-is (start r .pre .0) (r .relink .ensures .1) (c .before .before .clear .ensures _ (start r .pre .1 .string))
 
 pub remove-spec : {M : Type 1} → statement M
 remove-spec = tie.close (tie.spec relink-requires clear-requires same-length returns)

@@ -1,0 +1,61 @@
+-- `checking::pyramid::any_refused` meets its contract. The invariant: if none was found, the entries before are allowed. The measure is the darts left. Assumes nothing.
+use mathlib.Core.Path.{_≡_, refl, sym, _∙_}
+use mathlib.Core.Bool.{false}
+use mathlib.Core.List.{[]}
+use Prim.Native.Nat.{ℕ, _-_, _≤_, _<_, zero-le}
+use native.Mathlib.Omega.{arith}
+use lib.ListN.{length}
+use borrow.Author.Count.{below-none, below-more}
+use borrow.Author.Needs.{needs}
+use Rattle.maps.specs.AddLevel.{refusedMark}
+use Rattle.answers.proofs.Bools.{neither}
+use Rattle.checking.proofs.pyramid.any_refused.Statement.{statement}
+use Rattle.checking.proofs.pyramid.any_refused.Tie as tie
+
+abbrev Inv-loop : tie.InvT-loop
+Inv-loop n h lambda row any₀ at₀ at-end any at =
+    (at-end ≡ length row) × (at ≤ at-end) × (any ≡ false → (x : ℕ) → x < at → refusedMark (n .0) (length row) (h .0) [] lambda [] row [] x ≡ false)
+
+abbrev μ-loop : tie.MeasureT-loop
+μ-loop n h lambda row any₀ at₀ at-end any at = at-end - at
+
+loop-holds : tie.Need-loop-holds Inv-loop μ-loop
+loop-holds c = (refl, zero-le, λ e. below-none _)
+
+shared-slice-read-t11 : tie.Need-shared-slice-read-t11 Inv-loop μ-loop
+shared-slice-read-t11 c = search needs
+
+shared-slice-read-t14 : tie.Need-shared-slice-read-t14 Inv-loop μ-loop
+shared-slice-read-t14 c = search needs
+
+mark-refused-requires : tie.Need-mark-refused-requires Inv-loop μ-loop
+mark-refused-requires c κs = search needs
+
+add-at : tie.Need-add-at Inv-loop μ-loop
+add-at c = search needs
+
+loop-less : tie.Need-loop-less Inv-loop μ-loop
+loop-less c = search needs
+
+loop-again : tie.Need-loop-again Inv-loop μ-loop
+loop-again c =
+    let l = c .before .before .before .before .loop in
+    (refl, omega arith, λ e. let n = neither (l .any) (c .mark-refused .result) e in below-more _ (l .at) (l .inv .2 (n .0)) (sym (c .mark-refused .ensures) ∙ n .1))
+
+returns : tie.Need-returns Inv-loop μ-loop
+returns c e x f = c .before .loop .inv .2 e x (omega arith)
+
+pub any-refused-spec : {M : Type 1} → statement M
+any-refused-spec =
+    tie.close
+    (tie.spec
+    Inv-loop
+    μ-loop
+    loop-holds
+    shared-slice-read-t11
+    shared-slice-read-t14
+    mark-refused-requires
+    add-at
+    loop-less
+    loop-again
+    returns)
