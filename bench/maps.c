@@ -39,6 +39,9 @@ static const struct form forms[] = {
     {"both4", 4, {1, 1, 2, 5}, {0}, {0}, 8, 15, 0, 1},
     {"cycle", 1, {0}, {0}, {0}, 1, 99, 1, 0, 4096},
     {"vertex", 2, {0}, {0}, {0}, 1, 99, 1, 0, 4096},
+    {"vertex-2048", 2, {0}, {0}, {0}, 1, 99, 1, 0, 2048},
+    {"vertex-1024", 2, {0}, {0}, {0}, 1, 99, 1, 0, 1024},
+    {"vertex-512", 2, {0}, {0}, {0}, 1, 99, 1, 0, 512},
 };
 
 static uint64_t random_state;
@@ -215,9 +218,7 @@ static void choose_cells(const struct pyramid *p, const uint16_t *table, unsigne
 {
     static uint16_t cell[ZG_MOST_DARTS];
     static uint8_t fits[ZG_MOST_DARTS];
-    size_t len = (size_t)(p->n + 1) * p->darts;
-    if (plain_mark_cells(p->n, p->darts, table, len, (uint8_t)dimension, fits, p->darts).number)
-        abort();
+    plain_removable(p->n, p->darts, table, dimension, fits);
     for (unsigned d = 0; d < p->darts; d++)
         if (fits[d] != ZG_STAY) {
             unsigned size = list_cell(p, table, dimension, d, cell);

@@ -634,24 +634,71 @@ static zg_refusal check_level(unsigned n, unsigned darts, const uint16_t *table)
     return RESULT(zg_refusal, 0);
 }
 
-/* Takes the marks off all that hangs together in the cell with a dart that fails. */
-static void unmark_cell(unsigned n, unsigned darts, const uint16_t *table, unsigned dimension, unsigned failing,
-                        uint8_t *marks)
+/* Gives a value to all darts that one reaches by the rows of a mask, and that don't have it yet. */
+static void reach(unsigned n, unsigned darts, const uint16_t *table, unsigned rows, unsigned start, uint8_t *set,
+                  uint8_t value)
 {
     uint16_t open[ZG_MOST_DARTS];
     unsigned opens = 1;
-    open[0] = (uint16_t)failing;
-    marks[failing] = ZG_STAY;
+    open[0] = (uint16_t)start;
+    set[start] = value;
     while (opens) {
         unsigned d = open[--opens];
         for (unsigned j = 0; j <= n; j++) {
+            if (!(rows >> j & 1))
+                continue;
             unsigned e = table[j * darts + d];
-            if (j != dimension && marks[e] != ZG_STAY) {
-                marks[e] = ZG_STAY;
+            if (set[e] != value) {
+                set[e] = value;
                 open[opens++] = (uint16_t)e;
             }
         }
     }
+}
+
+enum { EVERY_ROW = 31 };
+static unsigned but_one(unsigned row) { return EVERY_ROW & ~(1u << row); }
+static unsigned but_two(unsigned row) { return EVERY_ROW & ~(3u << row); }
+
+void plain_removable(unsigned n, unsigned darts, const uint16_t *table, unsigned dimension, uint8_t *marks)
+{
+    for (unsigned d = 0; d < darts; d++)
+        marks[d] = table[d] == ZG_ABSENT ? ZG_STAY : (uint8_t)dimension;
+    if (dimension + 2 > n)
+        return;
+    const uint16_t *a = table + (dimension + 1) * darts, *b = a + darts;
+    for (unsigned d = 0; d < darts; d++)
+        if (marks[d] != ZG_STAY && b[a[d]] != a[b[d]])
+            reach(n, darts, table, but_one(dimension), d, marks, ZG_STAY);
+}
+
+/* Takes the marks off the cells that are one part. In a removable cell a(dimension+1) leads from the one part to the
+ * other, so the part of one dart decides it. */
+static void divide(unsigned n, unsigned darts, const uint16_t *table, unsigned dimension, uint8_t *marks)
+{
+    const uint16_t *a = table + (dimension + 1) * darts;
+    uint8_t parts[ZG_MOST_DARTS] = {0};
+    for (unsigned d = 0; d < darts; d++) {
+        if (marks[d] == ZG_STAY || parts[d] || parts[a[d]])
+            continue;
+        reach(n, darts, table, but_two(dimension), d, parts, 1);
+        if (parts[a[d]])
+            reach(n, darts, table, but_one(dimension), d, marks, ZG_STAY);
+    }
+}
+
+/* Takes the marks off the cell of the lowest dart of each piece that is marked as a whole. */
+static void spare(unsigned n, unsigned darts, const uint16_t *table, unsigned dimension, uint8_t *marks)
+{
+    uint8_t pieces[ZG_MOST_DARTS] = {0};
+    for (unsigned d = 0; d < darts; d++)
+        if (table[d] != ZG_ABSENT && marks[d] == ZG_STAY && !pieces[d])
+            reach(n, darts, table, EVERY_ROW, d, pieces, 1);
+    for (unsigned d = 0; d < darts; d++)
+        if (marks[d] != ZG_STAY && !pieces[d]) {
+            reach(n, darts, table, but_one(dimension), d, marks, ZG_STAY);
+            reach(n, darts, table, EVERY_ROW, d, pieces, 1);
+        }
 }
 
 zg_refusal plain_mark_cells(uint8_t n, uint16_t darts, const uint16_t *table, size_t table_len, uint8_t dimension,
@@ -667,14 +714,9 @@ zg_refusal plain_mark_cells(uint8_t n, uint16_t darts, const uint16_t *table, si
     zg_refusal r = check_level(n, darts, table);
     if (r.number)
         return r;
-    for (unsigned d = 0; d < darts; d++)
-        marks[d] = table[d] == ZG_ABSENT ? ZG_STAY : dimension;
-    if (dimension + 2 > n)
-        return r;
-    const uint16_t *a = table + (dimension + 1) * darts, *b = a + darts;
-    for (unsigned d = 0; d < darts; d++)
-        if (marks[d] != ZG_STAY && b[a[d]] != a[b[d]])
-            unmark_cell(n, darts, table, dimension, d, marks);
+    plain_removable(n, darts, table, dimension, marks);
+    divide(n, darts, table, dimension, marks);
+    spare(n, darts, table, dimension, marks);
     return r;
 }
 

@@ -24,6 +24,9 @@ __typeof__(zg_take) plain_take;
 /* As plain_read_by_levels, but passing at once over the levels on which a step finds its dart unchanged. */
 __typeof__(zg_read_by_levels) plain_read_by_levels_skipping;
 
+/* Marks all removable cells of one dimension of a valid level, whatever their parts: the first step of marking. */
+void plain_removable(unsigned n, unsigned darts, const uint16_t *table, unsigned dimension, uint8_t *marks);
+
 #ifdef __cplusplus
 }
 #endif

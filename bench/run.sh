@@ -109,7 +109,7 @@ echo
 echo "growth: instructions for each dart, library (C)"
 printf '%-8s %-8s %20s %20s %20s %20s\n' job map 512 1024 2048 4096
 for job in check unfold mark; do
-    for map in grid2 path32 strip; do
+    for map in grid2 path32 strip vertex; do
         printf '%-8s %-8s' "$job" "$map"
         for size in -512 -1024 -2048 ""; do
             lib=$(count library "$job" "$map$size") && c=$(count c "$job" "$map$size") || exit 2

@@ -15,7 +15,7 @@ extern "C" {
  * belong together. Names, the order of arguments and the first field of every answer stay. MAJOR rises when a function
  * answers or is lent something else than before, MINOR when something is added, PATCH when neither is seen from here.
  */
-#define ZG_VERSION_MAJOR 3
+#define ZG_VERSION_MAJOR 4
 #define ZG_VERSION_MINOR 0
 #define ZG_VERSION_PATCH 0
 #define ZG_VERSION (ZG_VERSION_MAJOR * 65536 + ZG_VERSION_MINOR * 256 + ZG_VERSION_PATCH)
@@ -51,7 +51,7 @@ extern "C" {
  * table, marks and words held before is not read, unless the pointer is const.
  *
  * Nothing is allocated and nothing is kept between calls, so calls may run at once on several threads where none writes
- * what another is lent. zg_add and zg_mark_cells take the most stack, about 17 KiB.
+ * what another is lent. zg_mark_cells takes the most stack, about 24 KiB.
  *
  * What is returned
  *
@@ -257,9 +257,12 @@ zg_count zg_survivors(uint16_t darts, uint8_t h, const uint8_t *lambda, size_t l
                       uint64_t *words, size_t words_len);
 
 /*
- * Marks the removable cells of one dimension, below n, on an explicit level; there is no marking for contraction. Lent
+ * Marks cells of one dimension, below n, on an explicit level, to be removed; there is no marking for contraction. Lent
  * to read: table, (n+1)N. Lent to write: marks, N.
- * Accepted: the darts of every removable cell of that dimension have it as their mark, all others ZG_STAY.
+ * Accepted: the darts of every removable cell that falls into exactly two parts, when the involution of that dimension
+ * and the next are both left out, have the dimension as their mark; but wherever that is every dart of a connected
+ * piece, the cell of its lowest dart is left unmarked. All others have ZG_STAY. So open ends stay, and no piece is
+ * marked as a whole.
  * Refused 1, 2, 4, 13 (involution is the dimension asked), 5, 6, 7 (as zg_check_base, for darts that are present;
  * a dart is absent exactly where row 0 holds ZG_ABSENT, and 5 also names an absent dart with another entry).
  */

@@ -244,8 +244,7 @@ void compare_adding(const Pyramid& p, const Cell& cell, bool verdict)
     demand(number == (verdict ? 0 : 10), "number 10 for another cell", p);
 }
 
-// The marking job and number 10 against CGAL's verdicts: each cell to be removed by marking and some by adding, more of
-// the cells to be contracted by adding, since marking has none.
+// The marking job and number 10 against CGAL's verdicts: what is marked is removable, and some cells are tried by adding.
 template <unsigned n>
 void compare_verdicts(Random& r, const Pyramid& p, const Entries& table, const std::vector<Cell>& all,
                       const Twin<n>& twin, Tally& tally)
@@ -257,11 +256,9 @@ void compare_verdicts(Random& r, const Pyramid& p, const Entries& table, const s
         const bool verdict = twin.fits(cell), removal = cell.mark < n;
         if (removal)
             for (const unsigned d : cell.darts)
-                demand(marks[cell.mark][d] == (verdict ? cell.mark : 255), "another cell is removable", p);
-        const bool added = all.size() <= 24 || r.chance(removal ? 10 : 30);
-        if (added)
+                demand(verdict || marks[cell.mark][d] == 255, "a cell is marked that isn't removable", p);
+        if (all.size() <= 24 || r.chance(30)) {
             compare_adding(p, cell, verdict);
-        if (removal || added) {
             Verdicts& of = removal ? tally.removable : tally.contractible;
             (verdict ? of.fit : of.others)++;
         }

@@ -7,6 +7,7 @@
 #include <cstddef>
 #include <cstdint>
 #include <numeric>
+#include <set>
 #include <string>
 #include <vector>
 
@@ -81,15 +82,21 @@ private:
     std::vector<unsigned> parent;
 };
 
-// The i-cells: all that a dart reaches by every involution but a_i.
-inline Groups cells(const Map& m, unsigned i)
+// What hangs together by the involutions that are used.
+template <class Used> Groups connected(const Map& m, Used used)
 {
     Groups g(m.darts);
     for (unsigned j = 0; j <= m.n; j++)
-        for (unsigned d = 0; j != i && d < m.darts; d++)
+        for (unsigned d = 0; used(j) && d < m.darts; d++)
             if (m.present(d))
                 g.join(d, m.a[j][d]);
     return g;
+}
+
+// The i-cells: all that a dart reaches by every involution but a_i.
+inline Groups cells(const Map& m, unsigned i)
+{
+    return connected(m, [i](unsigned j) { return j != i; });
 }
 
 // Whether going by one row and then by the other ends at the same place as in the other order.
@@ -529,6 +536,36 @@ inline unsigned survivors(unsigned darts, unsigned h, const Bytes& lambda, unsig
     return count;
 }
 
+// The cells that would not be marked: not removable, or not of exactly two parts when two involutions are left out.
+inline std::vector<bool> unfit(const Map& m, unsigned dimension, Groups& cell)
+{
+    Groups part = connected(m, [=](unsigned j) { return j != dimension && j != dimension + 1; });
+    std::vector<std::set<unsigned>> parts(m.darts);
+    std::vector<bool> stays(m.darts, false);
+    for (unsigned d = 0; d < m.darts; d++) {
+        parts[cell.find(d)].insert(part.find(d));
+        if (!m.present(d) || !removable_at(m, dimension, d))
+            stays[cell.find(d)] = true;
+    }
+    for (unsigned d = 0; d < m.darts; d++)
+        if (parts[cell.find(d)].size() != 2)
+            stays[cell.find(d)] = true;
+    return stays;
+}
+
+// Adds the cell of the lowest dart of each connected piece of which no dart stays.
+inline void keep_pieces(const Map& m, Groups& cell, std::vector<bool>& stays)
+{
+    Groups piece = connected(m, [](unsigned) { return true; });
+    std::vector<bool> kept(m.darts, false);
+    for (unsigned d = 0; d < m.darts; d++)
+        if (stays[cell.find(d)])
+            kept[piece.find(d)] = true;
+    for (unsigned d = 0; d < m.darts; d++)
+        if (!kept[piece.find(d)])
+            kept[piece.find(d)] = stays[cell.find(d)] = true;
+}
+
 inline void mark(unsigned n, unsigned darts, const Entries& table, unsigned dimension, Bytes& out)
 {
     demand_dimension(n);
@@ -541,10 +578,8 @@ inline void mark(unsigned n, unsigned darts, const Entries& table, unsigned dime
     demand_involutions(m);
     demand_commuting(m);
     Groups cell = cells(m, dimension);
-    std::vector<bool> stays(darts, false);
-    for (unsigned d = 0; d < darts; d++)
-        if (!m.present(d) || !removable_at(m, dimension, d))
-            stays[cell.find(d)] = true;
+    std::vector<bool> stays = unfit(m, dimension, cell);
+    keep_pieces(m, cell, stays);
     for (unsigned d = 0; d < darts; d++)
         out[d] = std::uint8_t(stays[cell.find(d)] ? stay : dimension);
 }

@@ -192,8 +192,9 @@ pub fn survivors(
     answer.accepted().map(|r| r.count)
 }
 
-/// Marks the removable cells of one dimension, below n, on an explicit level; all other darts get [`STAY`]. There is no
-/// marking for contraction.
+/// Marks the removable cells of one dimension, below n, on an explicit level that fall into exactly two parts when that
+/// involution and the next are both left out; all other darts get [`STAY`]. Of a connected piece that would be marked as
+/// a whole, the cell of its lowest dart is left unmarked. There is no marking for contraction.
 pub fn mark_cells(
     n: Dimension,
     darts: u16,

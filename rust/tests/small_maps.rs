@@ -277,11 +277,27 @@ fn star_cells_marked() {
         mark_cells(Dimension(2), 12, &STAR, Dimension(1), &mut marks),
         Ok(())
     );
-    assert_eq!(marks, [1; 12]);
+    assert_eq!(marks, [STAY, STAY, 1, 1, 1, 1, STAY, STAY, 1, 1, 1, 1]);
     assert_eq!(
         mark_cells(Dimension(2), 12, &STAR, Dimension(2), &mut marks),
         Err(refused(13, 0, 2, 0))
     );
+}
+
+#[test]
+fn open_ends_and_a_ring_stay() {
+    let mut marks = [0; 2];
+    assert_eq!(
+        mark_cells(Dimension(1), 2, &[1, 0, 0, 1], Dimension(0), &mut marks),
+        Ok(())
+    );
+    assert_eq!(marks, [STAY; 2]);
+    let mut marks = [0; 8];
+    assert_eq!(
+        mark_cells(Dimension(1), 8, &SQUARE, Dimension(0), &mut marks),
+        Ok(())
+    );
+    assert_eq!(marks, [STAY, 0, 0, 0, 0, 0, 0, STAY]);
 }
 
 #[test]

@@ -1,52 +1,84 @@
--- What an accepted explicit level tells: it is valid, and its δ-cells are orbits by the rows but δ. Assumes nothing.
-use mathlib.Core.Path.{_≡_, sym, _∙_}
-use mathlib.Core.Bool.{Bool, not}
+-- What an accepted explicit level tells: it is valid, and a search on it by one choice for all darts is a search by the rows of that choice. Assumes nothing.
+use mathlib.Core.Path.{_≡_, refl, sym, _∙_}
+use mathlib.Core.Logic.{inl, inr}
+use mathlib.Core.Bool.{Bool, true, false, true≢false}
 use mathlib.Core.List.{List}
 use Prim.Native.Nat.{ℕ, _≤_, _<_}
-use lib.Dec.{eqb}
-use borrow.Author.Tests.{eqb-false, ne-eqb, not-true}
-use Rattle.maps.specs.Map.{Valid}
+use native.Mathlib.Omega.{arith}
+use lib.ListN.{length, replicate, List·getD-eq-default}
+use lib.Dec.{eqb, ltb}
+use borrow.Author.Tests.{eqb-false, ne-eqb, not-true, ltb-true, ltb-false}
+use Rattle.maps.specs.Map.{Involutions, Valid}
 use Rattle.maps.specs.Cell.{Cell, itself, onward}
-use Rattle.maps.specs.Orbit.{Orbit, here, further, TwoWay}
+use Rattle.maps.specs.Orbit.{Orbit, here, further}
 use Rattle.maps.specs.Table.{entry}
 use Rattle.maps.specs.CheckBase.{present}
 use Rattle.facts.proofs.Checks.{There, map-sound}
-use Rattle.orbits.specs.Orbits.{Closed, Ready}
-use Rattle.orbits.proofs.Orbits.{orbit-present}
-use Rattle.cells.specs.Marked.{ExplicitLevel}
+use Rattle.orbits.specs.Choices.{uses, chosen}
+use Rattle.orbits.specs.Search.{has, Room}
+use Rattle.orbits.specs.Orbits.{Closed, Ready, Added}
+use Rattle.orbits.proofs.Choices.{same-choice}
+use Rattle.cells.specs.Marked.{ExplicitLevel, but}
 
 -- the darts present
 abbrev pub Present : ℕ → ℕ → List ℕ → ℕ → Type 0
 Present n N table = There (entry N table) n N (present N table)
 
+-- a cell is the orbit by every row but one
+module _ (a : Involutions) (n δ : ℕ) where
+  pub cell-orbit : (x y : ℕ) → Cell a n δ x y → Orbit a n (λ j d. but δ j) x y
+  cell-orbit x _ itself = here
+  cell-orbit x _ (onward d j c lj ne) = further d j (cell-orbit x d c) lj (rw (ne-eqb j δ ne))
+
+  pub orbit-cell : (x y : ℕ) → Orbit a n (λ j d. but δ j) x y → Cell a n δ x y
+  orbit-cell x _ here = itself
+  orbit-cell x _ (further d j o lj u) = onward d j (orbit-cell x d o) lj (eqb-false j δ (not-true (eqb j δ) u))
+
+-- what is in a stored set has its place
+has-low : (list : List Bool) (d : ℕ) → has list d ≡ true → d < length list
+has-low list d h = go (ltb d (length list)) refl
+  where
+    go : (b : Bool) → ltb d (length list) ≡ b → d < length list
+    go true q = ltb-true d (length list) q
+    go false q = absurd (true≢false (sym h ∙ List·getD-eq-default list false (ltb-false d (length list) q)))
+
 module _ (n N : ℕ) (table : List ℕ) (level : ExplicitLevel n N table) where
   pub level-valid : Valid (entry N table) n (Present n N table)
   level-valid = map-sound (entry N table) n N (present N table) (level .accepts) .valid
 
-  module _ (δ : ℕ) (uses : ℕ → ℕ → Bool) (others : (j d : ℕ) → j ≤ n → d < N → uses j d ≡ not (eqb j δ)) where
-    pub level-two-way : TwoWay (entry N table) n (Present n N table) uses
-    level-two-way = record {
-      inside = λ j d lj p u. level-valid .inside j d lj p;
-      twice = λ j d lj p u. level-valid .twice j d lj p;
-      both = λ j d lj p u. others j (entry N table j d) lj (level-valid .inside j d lj p .0) ∙ sym (others j d lj (p .0)) ∙ u;
-    }
+  -- a choice for all darts, and the rows that it uses
+  module _ (choice : ℕ) (rows : ℕ → Bool) (is : (j : ℕ) → j < 5 → uses choice j ≡ rows j) where
+    agree : (j d : ℕ) → j ≤ n → d < 4096 → chosen (replicate 4096 choice) j d ≡ rows j
+    agree j d lj ld = same-choice choice j d ld ∙ is j (omega (arith, level .rows .dimension))
 
-    -- the δ-cell of a dart present is its orbit
-    pub cell-orbit : (x y : ℕ) → Present n N table x → Cell (entry N table) n δ x y → Orbit (entry N table) n uses x y × Present n N table y
-    cell-orbit x _ p itself = (here, p)
-    cell-orbit x _ p (onward d j c lj ne) = let r = cell-orbit x d p c in (further d j (r .0) lj (others j d lj (r .1 .0) ∙ rw (ne-eqb j δ ne)), level-valid .inside j d lj (r .1))
+    by-rows : (x y : ℕ) → Present n N table x → Orbit (entry N table) n (chosen (replicate 4096 choice)) x y → Orbit (entry N table) n (λ j d. rows j) x y × Present n N table y
+    by-rows x _ p here = (here, p)
+    by-rows x _ p (further d j o lj u) =
+        let r = by-rows x d p o in
+        (further d j (r .0) lj (sym (agree j d lj (omega (arith, r .1 .0, level .rows .darts))) ∙ u), level-valid .inside j d lj (r .1))
 
-    pub orbit-cell : (x y : ℕ) → Present n N table x → Orbit (entry N table) n uses x y → Cell (entry N table) n δ x y
-    orbit-cell x _ p here = itself
-    orbit-cell x _ p (further d j o lj u) =
-        let q = orbit-present (entry N table) n uses (Present n N table) level-two-way x d p o in
-        onward d j (orbit-cell x d p o) lj (eqb-false j δ (not-true (eqb j δ) (sym (others j d lj (q .0)) ∙ u)))
+    by-choice : (x y : ℕ) → Present n N table x → Orbit (entry N table) n (λ j d. rows j) x y → Orbit (entry N table) n (chosen (replicate 4096 choice)) x y × Present n N table y
+    by-choice x _ p here = (here, p)
+    by-choice x _ p (further d j o lj u) =
+        let r = by-choice x d p o in
+        (further d j (r .0) lj (agree j d lj (omega (arith, r .1 .0, level .rows .darts)) ∙ u), level-valid .inside j d lj (r .1))
 
-    -- a search may begin at it
-    pub level-ready : (d : ℕ) (within : ℕ → Bool) → Present n N table d → Closed (entry N table) n uses within → Ready n N table uses d within
-    level-ready d within p c = record {
+    -- a search may begin at a dart present
+    pub level-ready : (d : ℕ) (reached : List Bool) (queue : List ℕ) → Present n N table d → Room reached queue → Closed (entry N table) n (λ j d. rows j) (has reached)
+        → Ready n N table (chosen (replicate 4096 choice)) d (has reached)
+    level-ready d reached queue p z c = record {
       rows = level .rows;
       first = p .0;
-      inside = λ e j o lj u. level-valid .inside j e lj (orbit-present (entry N table) n uses (Present n N table) level-two-way d e p o) .0;
-      closed = c;
+      inside = λ e j o lj u. level-valid .inside j e lj (by-rows d e p o .1) .0;
+      closed = λ e j h lj u. c e j h lj (sym (agree j e lj (omega (arith, has-low reached e h, z .reached-long))) ∙ u);
+    }
+
+    -- and adds what the rows reach
+    pub level-added : (d : ℕ) (old new : List Bool) (queue : List ℕ) → Present n N table d → Room new queue → Added (entry N table) n (chosen (replicate 4096 choice)) d (has old) (has new)
+        → Added (entry N table) n (λ j d. rows j) d (has old) (has new)
+    level-added d old new queue p z w = record {
+      kept = w .kept;
+      whole = λ e o. w .whole e (by-choice d e p o .0);
+      only = λ e h. elim (w .only e h) [ inl o ↦ inl o | inr o ↦ inr (by-rows d e p o .0) ];
+      closed = λ e j h lj u. w .closed e j h lj (agree j e lj (omega (arith, has-low new e h, z .reached-long)) ∙ u);
     }

@@ -1,4 +1,4 @@
--- On an accepted level the marked row is a kernel: whole cells, removable, and no removable cell is left out. Assumes nothing.
+-- On an accepted level the marked row is a kernel: whole cells, removable, and add accepts it. Assumes nothing.
 use mathlib.Core.Path.{_≡_, sym, ap, _∙_}
 use mathlib.Core.Logic.{inl, inr}
 use mathlib.Core.Bool.{true, false, true≢false}
@@ -8,17 +8,16 @@ use native.Mathlib.Omega.{arith}
 use lib.ListN.{length}
 use borrow.Author.Tests.{ltb-true, le-ltb}
 use Rattle.maps.specs.Verdict.{accepted}
-use Rattle.maps.specs.Map.{Involutions}
 use Rattle.maps.specs.Cell.{Cell, itself, onward}
 use Rattle.maps.specs.Mark.{isMark, contracts}
-use Rattle.maps.specs.Kernel.{Removable, Kernel}
+use Rattle.maps.specs.Kernel.{Kernel}
 use Rattle.maps.specs.Table.{entry, each}
 use Rattle.maps.specs.Check.{checkKernel}
 use Rattle.maps.specs.CheckBase.{present}
 use Rattle.maps.specs.Folded.{levelTable}
 use Rattle.maps.specs.CheckPyramid.{checkLent, checkLeaves}
 use Rattle.maps.specs.AddLevel.{addLent}
-use Rattle.maps.specs.MarkCells.{CellsMarked, markLent, MarkLeaves}
+use Rattle.maps.specs.MarkCells.{Marked, CellsMarked, markLent, MarkLeaves}
 use Rattle.laws.proofs.Marks.{is-removal, stay-none, removed-rows}
 use Rattle.facts.proofs.Commuting.{commutes-kernel}
 use Rattle.facts.proofs.Checks.{There, sound-kernel}
@@ -26,20 +25,17 @@ use Rattle.facts.proofs.AcceptedJobs.{accepted-table}
 use Rattle.facts.proofs.ExactJobs.{top-row-added}
 use Rattle.cells.specs.Marked.{ExplicitLevel}
 use Rattle.cells.proofs.Explicit.{level-valid}
+use Rattle.cells.proofs.Parts.{marked-along}
 use Rattle.cells.proofs.Lent.{accepted-level}
 
-cell-join : (a : Involutions) (n i x y z : ℕ) → Cell a n i x y → Cell a n i y z → Cell a n i x z
-cell-join a n i x y _ c itself = c
-cell-join a n i x y _ c (onward d j e lj ne) = onward d j (cell-join a n i x y d c e) lj ne
-
 module _ (n N : ℕ) (table : List ℕ) (δ : ℕ) (out : List ℕ) (marked : CellsMarked n N table δ out) where
-  -- no removable cell is left out
-  pub marked-all : (d : ℕ) → d < N → present N table d ≡ true → Removable (entry N table) n δ d → each out d ≡ δ
+  -- nothing that is to be marked is left out
+  pub marked-all : (d : ℕ) → d < N → present N table d ≡ true → Marked (entry N table) n δ d → each out d ≡ δ
   marked-all d ld p ok = elim (marked .mark d ld) [ inl w ↦ w .2 | inr w ↦ absurd (w .0 (p, ok)) ]
 
   module _ (level : ExplicitLevel n N table) (below : δ < n) where
-    -- only removable cells are marked
-    pub marked-only : (d : ℕ) → d < N → isMark n (each out d) ≡ true → (present N table d ≡ true) × Removable (entry N table) n δ d × (each out d ≡ δ)
+    -- and nothing else is marked
+    pub marked-only : (d : ℕ) → d < N → isMark n (each out d) ≡ true → (present N table d ≡ true) × Marked (entry N table) n δ d × (each out d ≡ δ)
     marked-only d ld q = elim (marked .mark d ld) [ inl w ↦ w | inr w ↦ absurd (true≢false (sym q ∙ ap (isMark n) (w .1) ∙ stay-none n (omega (arith, level .rows .dimension)))) ]
 
     -- a dimension below n, and n is at most 4, so the mark is that of a removal
@@ -54,12 +50,12 @@ module _ (n N : ℕ) (table : List ℕ) (δ : ℕ) (out : List ℕ) (marked : Ce
         let w = marked-only d (p .0) q in
         let there = v .inside j d lj p in
         let next : Cell (entry N table) n δ d (entry N table j d) = onward d j itself lj (λ e. ne (e ∙ sym (ap (λ (x : ℕ × ℕ). x .0) (removed-rows n (each out d) (removes d (w .2)) .0) ∙ w .2))) in
-        marked-all (entry N table j d) (there .0) (there .1) (λ f e c. w .1 f e (cell-join (entry N table) n δ d (entry N table j d) e next c)) ∙ sym (w .2))
+        marked-all (entry N table j d) (there .0) (there .1) (marked-along (entry N table) n δ (There (entry N table) n N (present N table)) v below d (entry N table j d) p next (w .1)) ∙ sym (w .2))
         (λ d p q h.
         let w = marked-only d (p .0) q in
         let r = removed-rows n (each out d) (removes d (w .2)) in
         let l = ltb-true (each out d + 1) n (sym (r .1) ∙ h) in
-        rw (r .0, r .2, w .2) (w .1 (omega (arith, w .2)) d itself))
+        rw (r .0, r .2, w .2) (w .1 .0 .removable (omega (arith, w .2)) d itself))
 
     -- so the check of a kernel accepts it, at any level
     pub marked-accepted : (l : ℕ) → checkKernel (entry N table) n N (each out) l ≡ accepted

@@ -1,4 +1,9 @@
 mod Explicit
+pub mod Parts
 mod Cells
+mod Dividing
+mod Sparing
 mod Lent
 pub mod Kernels
+pub mod Pieces
+pub mod Small

@@ -7,11 +7,13 @@ use Prim.Native.Nat.{ℕ, _+_, _<_}
 use lib.Dec.{eqb, ltb}
 use Rattle.maps.specs.Verdict.{accepted}
 use Rattle.maps.specs.Mark.{stay}
-use Rattle.maps.specs.Kernel.{Removable}
+use Rattle.maps.specs.Orbit.{Orbit}
 use Rattle.maps.specs.Table.{entry}
 use Rattle.maps.specs.Check.{checkMap}
 use Rattle.maps.specs.CheckBase.{present}
 use Rattle.answers.specs.Rows.{Rows}
+use Rattle.orbits.specs.Search.{has, Room}
+use Rattle.orbits.specs.Orbits.{Closed}
 
 -- an explicit level that is accepted
 pub record ExplicitLevel (n N : ℕ) (table : List ℕ) : Type 0 where
@@ -23,11 +25,30 @@ module _ (n N : ℕ) (table : List ℕ) (δ : ℕ) where
   abbrev pub failing : ℕ → Bool
   failing d = ltb (δ + 1) n && (present N table d && not (eqb (entry N table (δ + 2) (entry N table (δ + 1) d)) (entry N table (δ + 1) (entry N table (δ + 2) d))))
 
-  -- a set that holds of the darts present exactly those whose δ-cell isn't removable
-  abbrev pub Spoilt : (ℕ → Bool) → Type 0
-  Spoilt within = (d : ℕ) → d < N → present N table d ≡ true
-      → ((within d ≡ true) × (Removable (entry N table) n δ d → ⊥))
-      ⊎ ((within d ≡ false) × Removable (entry N table) n δ d)
+-- the rows of a δ-cell: every one but a_δ
+abbrev pub but : ℕ → ℕ → Bool
+but δ j = not (eqb j δ)
+
+module _ (n N : ℕ) (table : List ℕ) where
+  -- the set has the orbits, by some rows, of the darts below k that pass a test, and nothing else
+  pub record Gathered (rows : ℕ → Bool) (test : ℕ → Bool) (within : ℕ → Bool) (k : ℕ) : Type 0 where
+    pub closed : Closed (entry N table) n (λ j d. rows j) within
+    pub source : (e : ℕ) → within e ≡ true → (b : ℕ) × (b < N) × (test b ≡ true) × Orbit (entry N table) n (λ j d. rows j) b e
+    pub passed : (b : ℕ) → b < k → test b ≡ true → within b ≡ true
+
+  -- of the darts present, the set has exactly those that P does not hold of
+  abbrev pub Lacks : (ℕ → Type 0) → (ℕ → Bool) → Type 0
+  Lacks P within = (d : ℕ) → d < N → present N table d ≡ true → ((within d ≡ true) × (P d → ⊥)) ⊎ ((within d ≡ false) × P d)
+
+  -- such a set of whole δ-cells, as it is stored beside a queue
+  pub record Without (δ : ℕ) (P : ℕ → Type 0) (reached : List Bool) (queue : List ℕ) : Type 0 where
+    pub room : Room reached queue
+    pub cells : Closed (entry N table) n (λ j d. but δ j) (has reached)
+    pub lacks : Lacks P (has reached)
+
+-- Is it still to be found out whether the cell of dart d has two parts? It is not in the set, and no part has been searched that d or its a_(δ+1)-neighbour lies in.
+abbrev pub undivided : ℕ → List ℕ → ℕ → (ℕ → Bool) → (ℕ → Bool) → ℕ → Bool
+undivided N table δ within parts d = present N table d && (not (within d || parts d) && not (parts (entry N table (δ + 1) d)))
 
 -- 255 where the dart is absent or in the set, else δ
 abbrev pub markOf : ℕ → List ℕ → ℕ → Bool → ℕ → ℕ

@@ -1,18 +1,21 @@
-// Mark cells of one dimension on an explicit level, in time proportional to its entries. Takes 16 KiB of local memory: a choice, a set and a queue of 4,096 darts. Assumes nothing.
+// Mark cells of one dimension on an explicit level, in time proportional to its entries: every cell, part and piece is searched once at most. Takes 24 KiB of local memory: two choices, two sets and a queue of 4,096 darts. Assumes nothing.
 use answers::Check;
 use answers::Dim;
 use answers::Level;
 use answers::Mark;
 use answers::Refusal;
 ghost use mathlib.Core.Path.{_≡_};
-ghost use mathlib.Core.Bool.{false};
+ghost use mathlib.Core.Bool.{true, false, _&&_};
 ghost use Prim.Native.Nat.{ℕ, _+_, _*_, _≤_, _<_};
 ghost use lib.ListN.{length};
-ghost use Rattle.maps.specs.Table.{listed};
-ghost use Rattle.maps.specs.MarkCells.{CellsMarked, markLent, MarkLeaves};
+ghost use Rattle.maps.specs.Kernel.{Removable};
+ghost use Rattle.maps.specs.Table.{entry, listed};
+ghost use Rattle.maps.specs.CheckBase.{present};
+ghost use Rattle.maps.specs.MarkCells.{WouldBeMarked, Marked, CellsMarked, markLent, MarkLeaves};
 ghost use Rattle.answers.specs.Numbers.{verdictOf};
+ghost use Rattle.orbits.specs.Choices.{uses};
 ghost use Rattle.orbits.specs.Search.{has, Room};
-ghost use Rattle.cells.specs.Marked.{ExplicitLevel, failing, Spoilt, markOf, marksOf};
+ghost use Rattle.cells.specs.Marked.{ExplicitLevel, failing, Gathered, Without, undivided, markOf, marksOf};
 
 // "For δ = n−1 always. For δ ≤ n−2, each dart of the cell ends at the same place by a_(δ+1) then a_(δ+2) as by a_(δ+2) then a_(δ+1)": does dart d not?
 fn fails(n: Dim, darts: u16, table: &[u16], dimension: Dim, d: u16) -> bool
@@ -44,13 +47,124 @@ fn spoil(
     queue: &mut [u16; 4096],
 )
     requires { ⌜ ExplicitLevel (n .0) darts (now table) × (dimension .0 < n .0) × ((d : ℕ) → has (now reached) d ≡ false) × Room (now reached) (now queue) ⌝ }
-    ensures { λ _. ⌜ Spoilt (n .0) darts (now (table .entry)) (dimension .0) (has (now (reached .exit))) ⌝ }
+    ensures { λ _. ⌜ Without (n .0) darts (now (table .entry)) (dimension .0) (Removable (entry darts (now (table .entry))) (n .0) (dimension .0)) (now (reached .exit)) (now (queue .exit)) ⌝ }
 {
     let choice = orbits::all_but(dimension);
     let choices = [choice; 4096];
     for d in 0..darts {
-        if fails(n, darts, table, dimension, d) {
-            orbits::orbit(n, darts, table, &choices, d, reached, queue);
+        let place = d as usize;
+        if !reached[place] {
+            if fails(n, darts, table, dimension, d) {
+                orbits::orbit(n, darts, table, &choices, d, reached, queue);
+            }
+        }
+    }
+}
+
+// Is it still to be found out whether the cell of dart d has two parts?
+fn undecided(
+    darts: u16,
+    table: &[u16],
+    dimension: Dim,
+    reached: &[bool; 4096],
+    parts: &[bool; 4096],
+    d: u16,
+) -> bool
+    requires { ⌜ ((n : ℕ) × ExplicitLevel n darts (now table) × (dimension .0 < n) × (d < darts)) ⌝ }
+    ensures { λ r. ⌜ r ≡ undivided darts (now (table .entry)) (dimension .0) (has (now (reached .entry))) (has (now (parts .entry))) d ⌝ }
+{
+    let place = d as usize;
+    if !answers::there(darts, table, d) {
+        return false;
+    }
+    if reached[place] | parts[place] {
+        return false;
+    }
+    let over = answers::at(darts, table, Dim(dimension.0 + 1), d) as usize;
+    !parts[over]
+}
+
+// Adds the cells that don't fall into two parts when a_δ and a_(δ+1) are both left out. In a removable cell a_(δ+1) leads from one part to the other, so the part of one dart decides it.
+fn divide(
+    n: Dim,
+    darts: u16,
+    table: &[u16],
+    dimension: Dim,
+    reached: &mut [bool; 4096],
+    queue: &mut [u16; 4096],
+)
+    requires { ⌜ ExplicitLevel (n .0) darts (now table) × (dimension .0 < n .0) × Without (n .0) darts (now table) (dimension .0) (Removable (entry darts (now table)) (n .0) (dimension .0)) (now reached) (now queue) ⌝ }
+    ensures { λ _. ⌜ Without (n .0) darts (now (table .entry)) (dimension .0) (WouldBeMarked (entry darts (now (table .entry))) (n .0) (dimension .0)) (now (reached .exit)) (now (queue .exit)) ⌝ }
+{
+    let part = orbits::all_but_two(dimension);
+    let part_choices = [part; 4096];
+    let cell = orbits::all_but(dimension);
+    let cell_choices = [cell; 4096];
+    let mut parts = [false; 4096];
+    for d in 0..darts {
+        if undecided(darts, table, dimension, reached, &parts, d) {
+            orbits::orbit(n, darts, table, &part_choices, d, &mut parts, queue);
+            let over = answers::at(darts, table, Dim(dimension.0 + 1), d) as usize;
+            if parts[over] {
+                orbits::orbit(n, darts, table, &cell_choices, d, reached, queue);
+            }
+        }
+    }
+}
+
+// The choice of every row.
+fn every_row() -> u8
+    ensures { λ r. ⌜ ((j : ℕ) → j < 5 → uses r j ≡ true) ⌝ }
+{
+    31
+}
+
+// The connected pieces of the darts in the set, each searched once.
+fn break_pieces(
+    n: Dim,
+    darts: u16,
+    table: &[u16],
+    reached: &[bool; 4096],
+    pieces: &mut [bool; 4096],
+    queue: &mut [u16; 4096],
+)
+    requires { ⌜ ExplicitLevel (n .0) darts (now table) × ((d : ℕ) → has (now pieces) d ≡ false) × Room (now pieces) (now queue) ⌝ }
+    ensures { λ _. ⌜ Gathered (n .0) darts (now (table .entry)) (λ j. true) (λ d. present darts (now (table .entry)) d && has (now (reached .entry)) d) (has (now (pieces .exit))) darts ⌝ }
+    ensures { λ _. ⌜ Room (now (pieces .exit)) (now (queue .exit)) ⌝ }
+{
+    let choice = every_row();
+    let choices = [choice; 4096];
+    for d in 0..darts {
+        let place = d as usize;
+        if answers::there(darts, table, d) & reached[place] & !pieces[place] {
+            orbits::orbit(n, darts, table, &choices, d, pieces, queue);
+        }
+    }
+}
+
+// Adds the cell of the lowest dart of every connected piece that has no dart in the set. Darts come in rising order, so the first of such a piece is its lowest.
+fn spare(
+    n: Dim,
+    darts: u16,
+    table: &[u16],
+    dimension: Dim,
+    reached: &mut [bool; 4096],
+    queue: &mut [u16; 4096],
+)
+    requires { ⌜ ExplicitLevel (n .0) darts (now table) × (dimension .0 < n .0) × Without (n .0) darts (now table) (dimension .0) (WouldBeMarked (entry darts (now table)) (n .0) (dimension .0)) (now reached) (now queue) ⌝ }
+    ensures { λ _. ⌜ Without (n .0) darts (now (table .entry)) (dimension .0) (Marked (entry darts (now (table .entry))) (n .0) (dimension .0)) (now (reached .exit)) (now (queue .exit)) ⌝ }
+{
+    let mut pieces = [false; 4096];
+    break_pieces(n, darts, table, reached, &mut pieces, queue);
+    let left = orbits::all_but(dimension);
+    let left_choices = [left; 4096];
+    let piece = every_row();
+    let piece_choices = [piece; 4096];
+    for d in 0..darts {
+        let place = d as usize;
+        if answers::there(darts, table, d) & !pieces[place] {
+            orbits::orbit(n, darts, table, &left_choices, d, reached, queue);
+            orbits::orbit(n, darts, table, &piece_choices, d, &mut pieces, queue);
         }
     }
 }
@@ -87,10 +201,12 @@ fn mark_accepted(n: Dim, darts: u16, table: &[u16], dimension: Dim, out: &mut [u
     let mut reached = [false; 4096];
     let mut queue = [0u16; 4096];
     spoil(n, darts, table, dimension, &mut reached, &mut queue);
+    divide(n, darts, table, dimension, &mut reached, &mut queue);
+    spare(n, darts, table, dimension, &mut reached, &mut queue);
     fill(darts, table, dimension, &reached, out);
 }
 
-// Mark cells of one dimension δ on an explicit level: every δ-cell that is removable is marked, the rest get 255. After a refusal nothing lent has changed.
+// Mark cells of one dimension δ on an explicit level: every δ-cell that is removable and falls into exactly two parts when a_δ and a_(δ+1) are both left out is marked; wherever that is every dart of a connected piece, the cell of its lowest dart is left unmarked; the rest get 255. After a refusal nothing lent has changed.
 pub fn mark_cells(n: Dim, darts: u16, table: &[u16], dimension: Dim, out: &mut [u8]) -> Check
     ensures { λ r. ⌜ verdictOf r ≡ markLent (n .0) darts (now (table .entry)) (dimension .0) (now (out .entry)) ⌝ }
     ensures { λ _. ⌜ MarkLeaves (n .0) darts (now (table .entry)) (dimension .0) (now (out .entry)) (markLent (n .0) darts (now (table .entry)) (dimension .0) (now (out .entry))) (now (out .exit)) ⌝ }

@@ -3,6 +3,7 @@ pub mod Count
 pub mod Map
 pub mod Cell
 pub mod Orbit
+pub mod Parts
 pub mod Mark
 pub mod Kernel
 pub mod Removal

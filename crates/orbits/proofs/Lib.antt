@@ -2,3 +2,4 @@ pub mod Orbits
 pub mod Choices
 pub mod Sets
 mod Searches
+pub mod Decided

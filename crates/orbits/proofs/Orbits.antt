@@ -8,7 +8,7 @@ use Rattle.orbits.specs.Orbits.{Closed}
 
 module _ (a : Involutions) (n : ℕ) (uses : ℕ → ℕ → Bool) where
   -- what is reached from a dart reached is reached
-  orbit-join : (x y z : ℕ) → Orbit a n uses x y → Orbit a n uses y z → Orbit a n uses x z
+  pub orbit-join : (x y z : ℕ) → Orbit a n uses x y → Orbit a n uses y z → Orbit a n uses x z
   orbit-join x y _ o here = o
   orbit-join x y _ o (further d j p lj u) = further d j (orbit-join x y d o p) lj u
 

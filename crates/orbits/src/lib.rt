@@ -4,6 +4,7 @@ ghost use mathlib.Core.Path.{_≡_};
 ghost use mathlib.Core.Bool.{true, false, not};
 ghost use Prim.Native.Nat.{ℕ, suc, _≤_, _<_};
 ghost use lib.Dec.{eqb};
+ghost use Rattle.maps.specs.Parts.{besides};
 ghost use Rattle.maps.specs.Table.{entry};
 ghost use Rattle.answers.specs.Rows.{Rows};
 ghost use Rattle.orbits.specs.Choices.{uses as usesOf, chosen};
@@ -24,6 +25,14 @@ pub fn all_but(row: Dim) -> u8
     ensures { λ r. ⌜ ((j : ℕ) → j < 5 → usesOf r j ≡ not (eqb j (row .0))) ⌝ }
 {
     31 - (1u8 << row.0)
+}
+
+// The choice of every row but one and the next.
+pub fn all_but_two(row: Dim) -> u8
+    requires { ⌜ row .0 < 4 ⌝ }
+    ensures { λ r. ⌜ ((j : ℕ) → j < 5 → usesOf r j ≡ besides (row .0) j) ⌝ }
+{
+    31 - (3u8 << row.0)
 }
 
 // Puts dart d in the queue, unless it is reached already; the queue's new end.

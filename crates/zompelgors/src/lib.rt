@@ -301,12 +301,12 @@ fn taken_as(answer: records::Taken) -> ZgRecord
     }
 }
 
-// The version of this interface: 3.0.0.
+// The version of this interface: 4.0.0.
 #[no_mangle]
 pub extern "C" fn zg_version() -> u32
-    ensures { λ r. ⌜ r ≡ versionFor 3 0 0 ⌝ }
+    ensures { λ r. ⌜ r ≡ versionFor 4 0 0 ⌝ }
 {
-    196608
+    262144
 }
 
 // Checks a base.
