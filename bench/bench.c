@@ -15,21 +15,24 @@ struct implementation {
     __typeof__(&plain_read_by_levels) read_by_levels;
     __typeof__(&plain_mark_cells) mark;
     __typeof__(&plain_take) take;
+    __typeof__(&plain_write) write;
     __typeof__(&plain_survivors) survivors;
 };
 
 static const struct implementation implementations[] = {
-    {"library", zg_check, zg_add, zg_unfold, zg_read, zg_read_by_levels, zg_mark_cells, zg_take, zg_survivors},
+    {"library", zg_check, zg_add, zg_unfold, zg_read, zg_read_by_levels, zg_mark_cells, zg_take, zg_write,
+     zg_survivors},
     {"c", plain_check, plain_add, plain_unfold, plain_read, plain_read_by_levels, plain_mark_cells, plain_take,
-     plain_survivors},
+     plain_write, plain_survivors},
     {"skipping", plain_check, plain_add, plain_unfold, plain_read, plain_read_by_levels_skipping, plain_mark_cells,
-     plain_take, plain_survivors},
+     plain_take, plain_write, plain_survivors},
 };
 
 /* All that is lent. It is written once before anything is counted, so no page is touched for the first time then. */
 static struct pyramid map, lower, taken;
 static uint16_t table[ZG_MOST_ENTRIES], top[ZG_MOST_ENTRIES];
 static uint8_t marks[ZG_MOST_DARTS], kernel[ZG_MOST_DARTS], record[ZG_MOST_RECORD];
+static uint8_t written[ZG_MOST_RECORD];
 static uint8_t lambda[ZG_MOST_DARTS], delta[ZG_MOST_DARTS];
 static uint64_t words[64];
 static unsigned record_len;
@@ -94,6 +97,12 @@ static void run_take(const struct implementation *by)
                     .refusal.number;
 }
 
+/* With its check. */
+static void run_write(const struct implementation *by)
+{
+    refusals += by->write(PYRAMID, table, len, written, sizeof written).refusal.number;
+}
+
 /* Every level. */
 static void run_survivors(const struct implementation *by)
 {
@@ -108,7 +117,7 @@ struct job {
 
 static const struct job jobs[] = {
     {"check", run_check}, {"add", run_add},   {"unfold", run_unfold}, {"read", run_read}, {"bylevels", run_by_levels},
-    {"mark", run_mark},   {"take", run_take}, {"survivors", run_survivors},
+    {"mark", run_mark},   {"take", run_take}, {"write", run_write},   {"survivors", run_survivors},
 };
 
 /* ---------------------------------------------------------------- */
@@ -143,6 +152,7 @@ static void set_up(const char *name)
     memset(marks, 0, sizeof marks);
     memset(&taken, 0, sizeof taken);
     memset(words, 0, sizeof words);
+    memset(written, 0, sizeof written);
 }
 
 static const struct implementation *implementation_named(const char *name)

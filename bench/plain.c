@@ -781,3 +781,50 @@ zg_record plain_take(const uint8_t *bytes, size_t bytes_len, uint16_t *rows, siz
     memcpy(delta, bytes + at - darts, darts);
     return RESULT(zg_record, .n = (uint8_t)n, .h = (uint8_t)h, .darts = (uint16_t)darts);
 }
+
+/* ---------------------------------------------------------------- write */
+
+static uint8_t *put_head(uint8_t *to, unsigned tag, unsigned length)
+{
+    *to++ = (uint8_t)tag;
+    *to++ = (uint8_t)length;
+    *to++ = (uint8_t)(length >> 8);
+    return to;
+}
+
+static uint8_t *put_row(uint8_t *to, const uint16_t *row, unsigned darts)
+{
+#if __BYTE_ORDER__ == __ORDER_LITTLE_ENDIAN__
+    memcpy(to, row, 2 * darts);
+#else
+    for (unsigned d = 0; d < darts; d++) {
+        to[2 * d] = (uint8_t)row[d];
+        to[2 * d + 1] = (uint8_t)(row[d] >> 8);
+    }
+#endif
+    return to + 2 * darts;
+}
+
+zg_written plain_write(uint8_t n, uint16_t darts, uint8_t h, const uint16_t *rows, size_t rows_len,
+                       const uint8_t *lambda, size_t lambda_len, const uint8_t *delta, size_t delta_len,
+                       uint16_t *table, size_t table_len, uint8_t *bytes, size_t bytes_len)
+{
+    zg_refusal bad = plain_check(n, darts, h, rows, rows_len, lambda, lambda_len, delta, delta_len, table, table_len);
+    if (bad.number)
+        return (zg_written){.refusal = bad};
+    uint32_t length = 7 + (n + 1u) * (3 + 2u * darts) + 2 * (3u + darts);
+    if (bytes_len < length)
+        return RESULT(zg_written, {4});
+    uint8_t *to = put_head(bytes, 0x01, 4);
+    *to++ = n;
+    *to++ = h;
+    *to++ = (uint8_t)darts;
+    *to++ = (uint8_t)(darts >> 8);
+    for (unsigned i = 0; i <= n; i++)
+        to = put_row(put_head(to, 0x10 + i, 2u * darts), rows + i * darts, darts);
+    to = put_head(to, 0x30, darts);
+    memcpy(to, lambda, darts);
+    to = put_head(to + darts, 0x31, darts);
+    memcpy(to, delta, darts);
+    return (zg_written){.length = length};
+}

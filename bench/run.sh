@@ -15,7 +15,7 @@ set -u
 source "$(dirname "$0")/../tests/tools.sh"
 BUILD=${BUILD:-target/bench} CPU=${CPU:-qemu64}
 maps=${MAPS:-"grid2 grid3 path32 grid4 strip voxels both1 both2 both3 both4 cycle vertex"}
-jobs=${JOBS:-"check add unfold read bylevels mark take survivors"}
+jobs=${JOBS:-"check add unfold read bylevels mark take write survivors"}
 
 need_compiler
 [ "$LIB" != c ] || need "$binutils" "$OBJCOPY" --version
@@ -55,6 +55,14 @@ count() {
     with=$(instructions "$@" 1) && without=$(instructions "$@" 0) && echo $((with - without))
 }
 
+# own IMPLEMENTATION JOB MAP: what a job takes itself; a writing begins with a check, which is counted by itself.
+own() {
+    local all check=0
+    all=$(count "$@") || return 1
+    [ "$2" != write ] || check=$(count "$1" check "$3") || return 1
+    echo $((all - check))
+}
+
 # line LIBRARY C READS LIMIT: instructions, for each read, ratio, and whether it is over its target; that is the status.
 line() {
     awk -v a="$1" -v c="$2" -v reads="$3" -v most="$4" 'BEGIN {
@@ -89,7 +97,7 @@ columns='%-9s %-22s %12s %12s %10s %8s %8s'
 printf "$columns %7s %5s\n" job "map (n, N, h)" library C "base reads" "lib/read" "C/read" ratio most
 for job in $jobs; do
     for map in $maps; do
-        lib=$(count library "$job" "$map") && c=$(count c "$job" "$map") || exit 2
+        lib=$(own library "$job" "$map") && c=$(own c "$job" "$map") || exit 2
         read -r n darts h reads <"$BUILD/facts"
         printf '%-9s %-22s ' "$job" "$map ($n, $darts, $h)"
         line "$lib" "$c" "$reads" "$(limit "$job" "$map")" || over=$((over + 1))

@@ -16,7 +16,7 @@ extern "C" {
  * answers or is lent something else than before, MINOR when something is added, PATCH when neither is seen from here.
  */
 #define ZG_VERSION_MAJOR 4
-#define ZG_VERSION_MINOR 0
+#define ZG_VERSION_MINOR 1
 #define ZG_VERSION_PATCH 0
 #define ZG_VERSION (ZG_VERSION_MAJOR * 65536 + ZG_VERSION_MINOR * 256 + ZG_VERSION_PATCH)
 
@@ -44,11 +44,13 @@ extern "C" {
  *            mark - ZG_CONTRACT; ZG_STAY, stay
  *   words    survivor words, ZG_WORDS entries: dart d at bit d mod 64 of word d div 64
  *
- * Every length is in entries, not bytes, and must be exact (zg_take alone takes longer ones). A pointer must be aligned
- * as its type asks and good for the length that is given with it, also where that length is wrong; at length 0 it must
- * still not be null, but any other address will do. Memory is lent for the call only; no pointer is kept. Memory that
- * is not const must not overlap any other memory lent to the same call; const memory may overlap const memory. What
- * table, marks and words held before is not read, unless the pointer is const.
+ *   bytes    a record, or a buffer for one
+ *
+ * Every length is in entries, not bytes, and must be exact (what zg_take writes to and the buffer of zg_write alone may
+ * be longer). A pointer must be aligned as its type asks and good for the length that is given with it, also where that
+ * length is wrong; at length 0 it must still not be null, but any other address will do. Memory is lent for the call
+ * only; no pointer is kept. Memory that is not const must not overlap any other memory lent to the same call; const
+ * memory may overlap const memory. What table, marks and words held before is not read, unless the pointer is const.
  *
  * Nothing is allocated and nothing is kept between calls, so calls may run at once on several threads where none writes
  * what another is lent. zg_mark_cells takes the most stack, about 24 KiB.
@@ -129,6 +131,11 @@ typedef struct {
     uint8_t n, h;
     uint16_t darts;
 } zg_record;
+
+typedef struct {
+    zg_refusal refusal;
+    uint32_t length; /* bytes of the record */
+} zg_written;
 
 /* What a number says, in a phrase. */
 static inline const char *zg_refusal_text(uint16_t number)
@@ -279,6 +286,19 @@ zg_refusal zg_mark_cells(uint8_t n, uint16_t darts, const uint16_t *table, size_
  */
 zg_record zg_take(const uint8_t *bytes, size_t bytes_len, uint16_t *rows, size_t rows_len,
                   uint8_t *lambda, size_t lambda_len, uint8_t *delta, size_t delta_len);
+
+/*
+ * Writes the record of an accepted pyramid, always with two bytes an entry. Lent to read: rows, (n+1)N; lambda, N;
+ * delta, N. Lent to write: table, (n+1)N; bytes, the buffer, 7 + (n+1)(3 + 2N) + 2(3 + N) or more. ZG_MOST_RECORD
+ * bytes are enough for every record.
+ * Accepted: length, and the record at the front of bytes; those behind its end are untouched. zg_take takes it back to
+ * the same n, h, N, rows, Lambda and Delta. table holds the explicit level h.
+ * Refused 1, 2, 3, 4, 5, 6, 7, 8, 9, 10 as zg_check, which also says what table then holds; last 4 for a buffer that is
+ * too short, with level h in table. bytes are untouched in a refusal.
+ */
+zg_written zg_write(uint8_t n, uint16_t darts, uint8_t h, const uint16_t *rows, size_t rows_len,
+                    const uint8_t *lambda, size_t lambda_len, const uint8_t *delta, size_t delta_len,
+                    uint16_t *table, size_t table_len, uint8_t *bytes, size_t bytes_len);
 
 #ifdef __cplusplus
 }

@@ -118,6 +118,7 @@ static void print_answer(const struct call *c)
         case 'L': print_u8(c->lambda, c->lambda_len); break;
         case 'E': print_u8(c->delta, c->delta_len); break;
         case 'M': print_u8(c->marks, c->marks_len); break;
+        case 'B': print_u8(c->bytes, c->bytes_len); break;
         case 'W': print_u64(c->words, c->words_len); break;
         }
     putchar('\n');

@@ -13,13 +13,14 @@
 enum { GUARD = 64, CANARY = 0xA5 };
 
 const char *const job_names[JOBS] = {
-    "check_base", "check", "add", "marks", "read", "bylevels", "unfold", "row", "survivors", "mark", "take", "levels"
+    "check_base", "check", "add", "marks", "read", "bylevels", "unfold", "row", "survivors", "mark", "take", "write",
+    "levels"
 };
 const char *const case_forms[JOBS] = {
     "nDR", "nDhRLET", "nDhRLEMT", "nDhLElM", "nDhRLElid", "nDhRLElid", "nDhRLElT", "nDhRTli", "DhLlW", "nDTiM",
-    "BRLE", "B",
+    "BRLE", "nDhRLETB", "B",
 };
-const char *const answer_forms[JOBS] = {"", "T", "LET", "M", "", "", "T", "", "W", "M", "RLE", ""};
+const char *const answer_forms[JOBS] = {"", "T", "LET", "M", "", "", "T", "", "W", "M", "RLE", "TB", ""};
 
 enum place call_place = BETWEEN_CANARIES;
 void (*call_failed)(void);
@@ -99,6 +100,7 @@ static uint8_t *delta_out(const struct call *c) { return lend(IN_DELTA, c->delta
 static const uint8_t *marks_in(const struct call *c) { return lend(IN_MARKS, c->marks, c->marks_len, 1, true); }
 static uint8_t *marks_out(const struct call *c) { return lend(IN_MARKS, c->marks, c->marks_len, 1, false); }
 static const uint8_t *bytes_in(const struct call *c) { return lend(IN_BYTES, c->bytes, c->bytes_len, 1, true); }
+static uint8_t *bytes_out(const struct call *c) { return lend(IN_BYTES, c->bytes, c->bytes_len, 1, false); }
 static uint64_t *words_out(const struct call *c) { return lend(IN_WORDS, c->words, c->words_len, 8, false); }
 
 static bool filled(const unsigned char *guard)
@@ -250,6 +252,18 @@ static void call_take(struct call *c)
     take_found(c, 3, r.n, r.h, r.darts);
 }
 
+static void call_write(struct call *c)
+{
+    const uint16_t *rows = rows_in(c);
+    const uint8_t *lambda = lambda_in(c), *delta = delta_in(c);
+    uint16_t *table = table_out(c);
+    uint8_t *bytes = bytes_out(c);
+    zg_written r = zg_write((uint8_t)c->n, (uint16_t)c->darts, (uint8_t)c->h, rows, c->rows_len, lambda, c->lambda_len,
+                            delta, c->delta_len, table, c->table_len, bytes, c->bytes_len);
+    take_refusal(c, r.refusal);
+    take_found(c, 1, r.length, 0, 0);
+}
+
 static bool say_refusal(struct call *levels, const struct call *step)
 {
     memcpy(levels->refusal, step->refusal, sizeof step->refusal);
@@ -309,7 +323,7 @@ void call_job(struct call *c)
 {
     static void (*const calls[JOBS])(struct call *) = {
         call_check_base, call_check, call_add, call_marks, call_read, call_by_levels, call_unfold, call_row,
-        call_survivors, call_mark, call_take, call_levels,
+        call_survivors, call_mark, call_take, call_write, call_levels,
     };
     c->founds = 0;
     c->text[0] = 0;

@@ -186,6 +186,7 @@ inline void answer_or_throw(Case& c, Answer& a)
         found(a, r.n, r.h, r.darts);
         break;
     }
+    case WRITE: found(a, by::write(c.n, c.darts, c.h, c.rows, c.lambda, c.delta, c.table, c.bytes)); break;
     case LEVELS: a.text = by::levels(c.bytes); break;
     case JOBS: break;
     }
@@ -193,7 +194,7 @@ inline void answer_or_throw(Case& c, Answer& a)
 
 inline Answer answer_independently(Case& c)
 {
-    static const unsigned founds[JOBS] = {0, 0, 1, 0, 3, 2, 2, 3, 1, 0, 3, 0};
+    static const unsigned founds[JOBS] = {0, 0, 1, 0, 3, 2, 2, 3, 1, 0, 3, 1, 0};
     Answer a;
     a.founds = founds[c.what];
     if (c.what == ADD)

@@ -655,6 +655,35 @@ inline Record take(const Bytes& bytes, Entries& rows, Bytes& lambda, Bytes& delt
     return r;
 }
 
+inline void put_field(Bytes& record, unsigned tag, const Bytes& body)
+{
+    for (const std::size_t byte : {std::size_t(tag), body.size() % 256, body.size() / 256})
+        record.push_back(std::uint8_t(byte));
+    record.insert(record.end(), body.begin(), body.end());
+}
+
+inline unsigned write(unsigned n, unsigned darts, unsigned h, const Entries& rows, const Bytes& lambda,
+                      const Bytes& delta, Entries& table, Bytes& bytes)
+{
+    check(n, darts, h, rows, lambda, delta, table);
+    Bytes record;
+    put_field(record, 0x01, {std::uint8_t(n), std::uint8_t(h), std::uint8_t(darts % 256), std::uint8_t(darts / 256)});
+    for (unsigned i = 0; i <= n; i++) {
+        Bytes body;
+        for (unsigned d = 0; d < darts; d++) {
+            const unsigned entry = rows[std::size_t(i) * darts + d];
+            body.push_back(std::uint8_t(entry % 256));
+            body.push_back(std::uint8_t(entry / 256));
+        }
+        put_field(record, 0x10 + i, body);
+    }
+    put_field(record, 0x30, lambda);
+    put_field(record, 0x31, delta);
+    demand(record.size() <= bytes.size(), 4);
+    std::copy(record.begin(), record.end(), bytes.begin());
+    return unsigned(record.size());
+}
+
 // What the program levels prints, its lines joined by " / ".
 inline std::string levels(const Bytes& bytes)
 {

@@ -269,6 +269,7 @@ inline void damage_item(Random& r, Case& c, char item)
     case 'L': r.chance(15) ? change_length(r, c.lambda) : damage_marks(r, c, c.lambda); break;
     case 'E': r.chance(15) ? change_length(r, c.delta) : damage_marks(r, c, c.delta); break;
     case 'M': r.chance(15) ? change_length(r, c.marks) : damage_marks(r, c, c.marks); break;
+    case 'B': change_length(r, c.bytes); break;
     case 'W': change_length(r, c.words); break;
     }
 }
@@ -457,6 +458,14 @@ inline void lend_record(Random& r, Case& c)
         r.chance(50) ? change_length(r, c.rows) : change_length(r, r.chance(50) ? c.lambda : c.delta);
 }
 
+// A buffer for the record, from none to one that is longer.
+inline void lend_buffer(Random& r, Case& c)
+{
+    const std::size_t record = 7 + (c.n + 1) * (3 + 2 * c.darts) + 2 * (3 + c.darts);
+    const std::size_t lengths[] = {record, record + r.below(100), record - 1, r.below(record)};
+    c.bytes = junk<Bytes>(r, lengths[r.chance(80) ? r.below(2) : 2 + r.below(2)]);
+}
+
 // A case lends only what its job takes: the rest is taken out again, so that its line holds the whole case.
 inline void drop_the_rest(Case& c)
 {
@@ -485,6 +494,8 @@ inline Case random_case(Random& r, const Pyramid& source)
         lend_level(r, c, source);
     if (c.what == TAKE || c.what == LEVELS)
         lend_record(r, c);
+    if (c.what == WRITE)
+        lend_buffer(r, c);
     drop_the_rest(c);
     if (c.what != TAKE && c.what != LEVELS)
         damage(r, c);

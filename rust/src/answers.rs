@@ -139,4 +139,4 @@ macro_rules! accepted {
     };
 }
 
-accepted!(ZgReading, ZgLink, ZgUnfolding, ZgCount, ZgHeight, ZgPart, ZgRecord);
+accepted!(ZgReading, ZgLink, ZgUnfolding, ZgCount, ZgHeight, ZgPart, ZgRecord, ZgWritten);

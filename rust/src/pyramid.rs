@@ -56,6 +56,30 @@ impl<'a> Pyramid<'a> {
         answer.accepted()
     }
 
+    /// Checks the whole pyramid and writes its record to the front of a buffer, with two bytes an entry; its length is
+    /// answered. The table is left as [`Pyramid::check`] leaves it; a buffer too short is refused 4, after all others.
+    pub fn write(&self, table: &mut [u16], bytes: &mut [u8]) -> Result<usize, Refusal> {
+        // Safety: every pointer comes from a slice with its own length, and only exclusive ones are written through.
+        let answer = unsafe {
+            raw::zg_write(
+                self.n.0,
+                self.darts,
+                self.h.0,
+                self.rows.as_ptr(),
+                self.rows.len(),
+                self.lambda.as_ptr(),
+                self.lambda.len(),
+                self.delta.as_ptr(),
+                self.delta.len(),
+                table.as_mut_ptr(),
+                table.len(),
+                bytes.as_mut_ptr(),
+                bytes.len(),
+            )
+        };
+        answer.accepted().map(|r| r.length as usize)
+    }
+
     /// One neighbour on a level by the direct walk, on any tables, checked before or not, and since which level the
     /// dart has had it.
     pub fn read(&self, level: Level, involution: Dimension, dart: u16) -> Result<Link, Refusal> {

@@ -39,6 +39,8 @@ answers! {
     ZgPart { unfolded: u8, start: u16, length: u16 }
     /// `zg_record`
     ZgRecord { n: u8, h: u8, darts: u16 }
+    /// `zg_written`: bytes of the record.
+    ZgWritten { length: u32 }
 }
 
 extern "C" {
@@ -176,4 +178,20 @@ extern "C" {
         delta: *mut u8,
         delta_len: usize,
     ) -> ZgRecord;
+
+    pub fn zg_write(
+        n: u8,
+        darts: u16,
+        h: u8,
+        rows: *const u16,
+        rows_len: usize,
+        lambda: *const u8,
+        lambda_len: usize,
+        delta: *const u8,
+        delta_len: usize,
+        table: *mut u16,
+        table_len: usize,
+        bytes: *mut u8,
+        bytes_len: usize,
+    ) -> ZgWritten;
 }

@@ -144,3 +144,14 @@ fn a_record_refused() {
         "refused 16 0 0 34: the record ends early"
     );
 }
+
+#[test]
+fn star_written() {
+    let whole = sample();
+    let pyramid = PyramidBuf::from_record(&whole).unwrap();
+    let (mut table, mut bytes) = ([0; 36], [9; 130]);
+    assert_eq!(pyramid.lend().write(&mut table, &mut bytes), Ok(118));
+    assert_eq!((&bytes[..118], &bytes[118..]), (&whole[..], &[9; 12][..]));
+    let refusal = pyramid.lend().write(&mut table, &mut bytes[..117]).unwrap_err();
+    assert_eq!(refusal.number, 4);
+}

@@ -28,4 +28,5 @@ pub mod Row
 pub mod Survivors
 pub mod MarkCells
 pub mod Record
+pub mod Write
 pub mod Accepted

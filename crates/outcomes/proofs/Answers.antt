@@ -30,6 +30,9 @@ use Rattle.checking.specs.declared.pyramid.Added.the-variants.{Grown, Refused a
 use Rattle.records.specs.Answers.{Outcome, saying, takenOf}
 use Rattle.records.specs.declared.Taken.{Taken}
 use Rattle.records.specs.declared.Taken.the-variants.{Record, Refused as NotTaken}
+use Rattle.writing.specs.Answers.{Outcome as Writing, writtenOf}
+use Rattle.writing.specs.declared.Written.{Written}
+use Rattle.writing.specs.declared.Written.the-variants.{Bytes, Refused as NotWritten}
 
 abbrev level : ℕ → Level
 level l = record { 0 = l }
@@ -144,6 +147,14 @@ takenFrom x = fromVerdict (Record (dimension (x .dimension)) (level (x .height))
 pub taken-told : (t : Taken) → takenFrom (takenOf t) ≡ t
 taken-told (Record n h darts) = refl
 taken-told (NotTaken r) = refusal-told (λ v. takenFrom (saying v 0 0 0)) NotTaken (λ k l i d. refl) r
+
+-- the answer of writing a record
+abbrev pub writtenFrom : Writing → Written
+writtenFrom x = fromVerdict (Bytes (x .bytes)) NotWritten (x .verdict)
+
+pub written-told : (w : Written) → writtenFrom (writtenOf w) ≡ w
+written-told (Bytes length) = refl
+written-told (NotWritten r) = refusal-told (λ v. writtenFrom (record { verdict = v; bytes = 0 })) NotWritten (λ k l i d. refl) r
 
 -- the four numbers of a refusal
 abbrev pub numbersFrom : Verdict → Numbers

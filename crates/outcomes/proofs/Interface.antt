@@ -14,7 +14,8 @@ use Rattle.zompelgors.proofs.zg_row.Reads as row
 use Rattle.zompelgors.proofs.zg_survivors.Reads as survivors
 use Rattle.zompelgors.proofs.zg_mark_cells.Reads as mark-cells
 use Rattle.zompelgors.proofs.zg_take.Reads as take
-use Rattle.outcomes.proofs.One.{OneOutcome, one-outcome, nothing, three, same-three}
+use Rattle.zompelgors.proofs.zg_write.Reads as write
+use Rattle.outcomes.proofs.One.{OneOutcome, one-outcome, nothing, three, same-three, pair, same-pair}
 use Rattle.outcomes.proofs.Cells.{marking-same}
 
 pub zg-version-one : (κs : Lfts 0) → OneOutcome (version.Learnt κs) (λ r. r) nothing
@@ -59,3 +60,7 @@ zg-mark-cells-one κs a r r′ s s′ c c′ = (c .0 ∙ sym (c′ .0), marking-
 -- rows, Λ and Δ
 pub zg-take-one : (κs : Lfts 4) → OneOutcome (take.Learnt κs) (λ r. r) (λ s. three (now (s .1 .0)) (now (s .1 .1 .0)) (now (s .1 .1 .1 .0)))
 zg-take-one κs = one-outcome _ _ _ (λ a r. r) (λ r. r) (λ a r. refl) _ _ (λ a r s c. (c .0, same-three (c .1 .0) (c .1 .1 .0) (c .1 .1 .1)))
+
+-- the table and the buffer
+pub zg-write-one : (κs : Lfts 5) → OneOutcome (write.Learnt κs) (λ r. r) (λ s. pair (now (s .1 .1 .1 .1 .1 .1 .0)) (now (s .1 .1 .1 .1 .1 .1 .1 .0)))
+zg-write-one κs = one-outcome _ _ _ (λ a r. r) (λ r. r) (λ a r. refl) _ _ (λ a r s c. (c .0, same-pair (c .1 .0) (c .1 .1)))

@@ -24,6 +24,13 @@ three x y z = (x, y, z)
 pub same-three : {x x′ y y′ z z′ : List ℕ} → x ≡ x′ → y ≡ y′ → z ≡ z′ → three x y z ≡ three x′ y′ z′
 same-three p q t = λ i. three (p i) (q i) (t i)
 
+-- two slices that are written
+abbrev pub pair : List ℕ → List ℕ → List ℕ × List ℕ
+pair x y = (x, y)
+
+pub same-pair : {x x′ y y′ : List ℕ} → x ≡ x′ → y ≡ y′ → pair x y ≡ pair x′ y′
+same-pair p q = λ i. pair (p i) (q i)
+
 -- a job that writes nothing
 abbrev pub nothing : {S : Type 0} → S → Unit {0}
 nothing s = tt

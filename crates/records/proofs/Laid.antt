@@ -2,11 +2,11 @@
 use mathlib.Core.Logic.{inl, inr, ⊎-elim}
 use mathlib.Core.Path.{_≡_, refl, sym, ap, _∙_}
 use mathlib.Core.Bool.{Bool, true, false, cond}
-use mathlib.Core.List.{List}
-use Prim.Native.Nat.{ℕ, _+_, _-_, _<_}
+use mathlib.Core.List.{List, _++_}
+use Prim.Native.Nat.{ℕ, _+_, _-_, _≤_, _<_}
 use native.Mathlib.Omega.{arith}
-use lib.ListN.{length, getD, set, length-set, List·getD-eq-default}
-use lib.Seq.{getD-set-same, getD-set-other}
+use lib.ListN.{length, getD, set, drop, length-set, length-append, length-drop, List·getD-append}
+use lib.Seq.{getD-set-same, getD-set-other, getD-append-add, getD-drop}
 use lib.Dec.{eqb, ltb}
 use borrow.Author.Tests.{ltb-true, ltb-false, eqb-true, eqb-false}
 use Rattle.maps.specs.Table.{listed}
@@ -15,6 +15,10 @@ use Rattle.records.specs.Parts.{Laid}
 
 pub laid-none : (value : ℕ → ℕ) (at : ℕ) (slice : List ℕ) → Laid value at 0 slice slice
 laid-none value at slice = record { long = refl; written = λ d l. absurd (omega arith); kept = λ x o. refl }
+
+-- other names for the same values
+pub laid-same : {value other : ℕ → ℕ} {at m : ℕ} {old new : List ℕ} → Laid value at m old new → ((d : ℕ) → d < m → value d ≡ other d) → Laid other at m old new
+laid-same s same = record { long = s .long; written = λ d l. s .written d l ∙ same d l; kept = s .kept }
 
 -- one value more
 pub laid-more : {value : ℕ → ℕ} {at m : ℕ} {old new : List ℕ} (place v : ℕ) → Laid value at m old new → place ≡ at + m → place < length new → v ≡ value m → Laid value at (m + 1) old (set new place v)
@@ -60,10 +64,16 @@ laid-front {value} {m} {old} {new} s = listed-of (λ x. cond (ltb x m) (value x)
         rw p (ap (λ (y : ℕ). getD new y 0) z ∙ s .written x l)
     at-place x false p = let l = ltb-false x m p in rw p (s .kept x (inr (omega arith)))
 
--- all of a slice
-pub laid-whole : {value : ℕ → ℕ} {m : ℕ} {old new : List ℕ} → length old ≡ m → length new ≡ m → ((x : ℕ) → x < m → getD new x 0 ≡ value x) → Laid value 0 m old new
-laid-whole {value} {m} {old} {new} e f h = record {
-  long = f ∙ sym e;
-  written = λ d l. let z : 0 + d ≡ d = omega arith in rw z (h d l);
-  kept = λ x o. ⊎-elim (λ l. absurd (omega arith)) (λ l. List·getD-eq-default new 0 (omega arith) ∙ sym (List·getD-eq-default old 0 (omega arith))) o;
+-- a list at the front of a slice that is as long or longer
+pub laid-list : {value : ℕ → ℕ} {m : ℕ} {old : List ℕ} (list : List ℕ) → m ≤ length old → length list ≡ m → ((x : ℕ) → x < m → getD list x 0 ≡ value x) → Laid value 0 m old (list ++ drop m old)
+laid-list {value} {m} {old} list l f h = record {
+  long = simp (length-append, length-drop) (omega arith);
+  written = λ d k. let z : 0 + d ≡ d = omega arith in rw z (List·getD-append list (drop m old) 0 d (omega arith) ∙ h d k);
+  kept = λ x o. ⊎-elim (λ k. absurd (omega arith)) (λ k. after x (omega arith)) o;
 }
+  where
+    after : (x : ℕ) → m ≤ x → getD (list ++ drop m old) x 0 ≡ getD old x 0
+    after x k =
+        let z : x ≡ length list + (x - m) = omega arith in
+        let y : m + (x - m) ≡ x = omega arith in
+        ap (λ (p : ℕ). getD (list ++ drop m old) p 0) z ∙ getD-append-add list (drop m old) (x - m) 0 ∙ getD-drop m old (x - m) 0 ∙ ap (λ (p : ℕ). getD old p 0) y

@@ -1,5 +1,7 @@
 mod Tags
-mod Laid
-mod Reach
+pub mod Laid
+pub mod Reach
 mod Whole
+pub mod Fields
 pub mod RoundTrip
+pub mod Again

@@ -12,36 +12,15 @@ use lib.Dec.{eqb, leb, ltb}
 use borrow.Author.Tests.{eqb-true, eqb-false, ltb-true, ltb-false, le-leb, lt-leb, le-ltb, eq-eqb}
 use Rattle.maps.specs.Verdict.{accepted, _then_}
 use Rattle.maps.specs.Sizes.{sizes, number1, number2, number3, number4}
+use Rattle.maps.specs.Write.{fieldWritten, inTwoBytes, rowOf, rowsWritten, written}
 use Rattle.maps.specs.Record.{field, recordDimension, recordHeight, recordDarts, takeLent, takeRows, takeLambda, takeDelta}
 use Rattle.laws.proofs.Verdicts.{scan-all}
 use Rattle.laws.proofs.Tables.{place}
 use Rattle.laws.proofs.Sizes.{Sized}
-use Rattle.records.specs.Parts.{rowField, roomOf, restOf, tableEntry}
-use Rattle.records.specs.Written.{fieldWritten, inTwoBytes, rowOf, rowsWritten, written, Below}
-use Rattle.records.proofs.Laid.{laid-whole}
+use Rattle.records.specs.Parts.{rowField, roomOf, restOf, tableEntry, Below}
+use Rattle.records.proofs.Fields.{length-field, low-two, high-two, row-length, rows-written}
+use Rattle.records.proofs.Laid.{laid-list}
 use Rattle.records.proofs.Whole.{Told, lent-is, all-taken}
-
-length-field : (tag : ℕ) (body : List ℕ) → length (fieldWritten tag body) ≡ 3 + length body
-unfolding fieldWritten
-length-field tag body = omega arith
-
-length-two : (xs : List ℕ) → length (inTwoBytes xs) ≡ 2 * length xs
-unfolding inTwoBytes
-length-two [] = refl
-length-two (x ∷ xs) = omega (arith, length-two xs)
-
--- the two bytes of number d
-low-two : (xs : List ℕ) (d : ℕ) → getD (inTwoBytes xs) (2 * d) 0 ≡ getD xs d 0 % 256
-unfolding inTwoBytes
-low-two [] d = refl
-low-two (x ∷ xs) zero = refl
-low-two (x ∷ xs) (suc d) = let e : 2 * suc d ≡ suc (suc (2 * d)) = omega arith in rw e (low-two xs d)
-
-high-two : (xs : List ℕ) (d : ℕ) → getD (inTwoBytes xs) (2 * d + 1) 0 ≡ getD xs d 0 / 256
-unfolding inTwoBytes
-high-two [] d = refl
-high-two (x ∷ xs) zero = refl
-high-two (x ∷ xs) (suc d) = let e : 2 * suc d + 1 ≡ suc (suc (2 * d + 1)) = omega arith in rw e (high-two xs d)
 
 below-append : (k : ℕ) (xs ys : List ℕ) → Below k xs → Below k ys → Below k (xs ++ ys)
 below-append k xs ys f g x = go (ltb x (length xs)) refl
@@ -150,23 +129,8 @@ module _ (n h N : ℕ) (rows lambda delta : List ℕ) (s : Sized n N h) (rows-le
   unfolding fieldWritten inTwoBytes
   length-header = refl
 
-  row-length : (i : ℕ) → i ≤ n → length (inTwoBytes (rowOf N rows i)) ≡ 2 * N
-  unfolding rowOf
-  row-length i l =
-      let m : suc i * N ≤ suc n * N = mul-le-mul-right N (omega arith) in
-      let k = suc-mul i N in
-      let e : length (take N (drop (i * N) rows)) ≡ N = simp (length-take, length-drop) (omega arith) in
-      length-two (take N (drop (i * N) rows)) ∙ ap (λ (x : ℕ). 2 * x) e
-
-  rows-written : (m : ℕ) → m ≤ suc n → length (rowsWritten N rows m) ≡ m * (3 + 2 * N)
-  unfolding rowsWritten
-  rows-written zero l = sym (zero-mul (3 + 2 * N))
-  rows-written (suc m) l =
-      let body = inTwoBytes (rowOf N rows m) in
-      omega (arith, length-append (rowsWritten N rows m) (fieldWritten (0x10 + m) body), length-field (0x10 + m) body, row-length m (omega arith), rows-written m (omega arith), suc-mul m (3 + 2 * N))
-
   before-row : (i : ℕ) → i ≤ suc n → length (header ++ rowsWritten N rows i) ≡ 7 + i * (3 + 2 * N)
-  before-row i l = omega (arith, length-append header (rowsWritten N rows i), length-header, rows-written i l)
+  before-row i l = omega (arith, length-append header (rowsWritten N rows i), length-header, rows-written n N rows rows-length i l)
 
   abbrev marks : List ℕ
   marks = fieldWritten 0x30 lambda ++ fieldWritten 0x31 delta
@@ -222,7 +186,7 @@ module _ (n h N : ℕ) (rows lambda delta : List ℕ) (s : Sized n N h) (rows-le
       let row = take N (drop (m * N) rows) in
       let dropped : Below 65536 (drop (m * N) rows) = λ x. rw (getD-drop (m * N) rows x 0) (f (m * N + x)) in
       below-append 256 (rowsWritten N rows m) (fieldWritten (0x10 + m) (inTwoBytes row)) (rows-bytes f m (omega arith))
-      (below-field (0x10 + m) (inTwoBytes row) (omega arith) (omega (arith, row-length m (omega arith))) (below-two row (below-take 65536 N (drop (m * N) rows) (omega arith) dropped)))
+      (below-field (0x10 + m) (inTwoBytes row) (omega arith) (omega (arith, row-length n N rows rows-length m (omega arith))) (below-two row (below-take 65536 N (drop (m * N) rows) (omega arith) dropped)))
 
   -- the size of a record
   pub written-length : length (written n h N rows lambda delta) ≡ 7 + suc n * (3 + 2 * N) + 2 * (3 + N)
@@ -244,7 +208,7 @@ module _ (n h N : ℕ) (rows lambda delta : List ℕ) (s : Sized n N h) (rows-le
       rw (field-accepted f, le-leb 1 n (s .one-dimension), le-leb n 4 (s .dimension), le-leb 1 N (s .one-dart), le-leb N 4096 (s .darts), le-ltb 32 h (s .height))
 
   row-fine : (i : ℕ) → i ≤ n → field list (7 + i * (3 + 2 * N)) (0x10 + i) (2 * N) ≡ accepted
-  row-fine i l = rw (row-length i l) at (field-accepted (row-stands i l))
+  row-fine i l = rw (row-length n N rows rows-length i l) at (field-accepted (row-stands i l))
 
   -- what stands in the rows
   row-value : (i d : ℕ) → i ≤ n → d < N → getD rows (i * N + d) 0 ≡ tableEntry list N false (i * N + d)
@@ -253,7 +217,7 @@ module _ (n h N : ℕ) (rows lambda delta : List ℕ) (s : Sized n N h) (rows-le
       let row = take N (drop (i * N) rows) in
       let at = 7 + i * (3 + 2 * N) in
       let read = field-body (row-stands i li) in
-      let e = row-length i li in
+      let e = row-length n N rows rows-length i li in
       let x : getD row d 0 ≡ getD rows (i * N + d) 0 = getD-take N (drop (i * N) rows) d 0 ld ∙ getD-drop (i * N) rows d 0 in
       let low : getD list (at + 3 + 2 * d) 0 ≡ getD rows (i * N + d) 0 % 256 = read (2 * d) (omega arith) ∙ low-two row d ∙ ap (λ (y : ℕ). y % 256) x in
       let z : at + 3 + 2 * d + 1 ≡ at + 3 + (2 * d + 1) = omega arith in
@@ -265,8 +229,8 @@ module _ (n h N : ℕ) (rows lambda delta : List ℕ) (s : Sized n N h) (rows-le
       let seven : 7 ≡ 7 + 0 * (3 + 2 * N) = omega (arith, zero-mul (3 + 2 * N)) in
       ap (λ (x : ℕ). getD list x 0) seven ∙ field-tag (row-stands 0 (omega arith))
 
-  -- what taking it into lent slices of these lengths gives
-  module _ (lentRows lentLambda lentDelta : List ℕ) (rows-lent : length lentRows ≡ suc n * N) (lambda-lent : length lentLambda ≡ N) (delta-lent : length lentDelta ≡ N) where
+  -- what taking it into lent slices of these lengths, or longer ones, gives
+  module _ (lentRows lentLambda lentDelta : List ℕ) (rows-lent : suc n * N ≤ length lentRows) (lambda-lent : N ≤ length lentLambda) (delta-lent : N ≤ length lentDelta) where
     told : Told list lentRows lentLambda lentDelta n h N false true
     unfolding written fieldWritten inTwoBytes
     told = record {
@@ -274,7 +238,7 @@ module _ (n h N : ℕ) (rows lambda delta : List ℕ) (s : Sized n N h) (rows-le
       height = refl;
       darts = omega arith;
       kind = ap (λ (x : ℕ). eqb x 0x20 && leb N 256) (sym first-tag);
-      fit = rw (le-leb (suc n * N) (length lentRows) (omega arith), le-leb N (length lentLambda) (omega arith), le-leb N (length lentDelta) (omega arith));
+      fit = rw (le-leb (suc n * N) (length lentRows) rows-lent, le-leb N (length lentLambda) lambda-lent, le-leb N (length lentDelta) delta-lent);
     }
 
     rest-fine : restOf list n N false true ≡ accepted
@@ -292,15 +256,15 @@ module _ (n h N : ℕ) (rows lambda delta : List ℕ) (s : Sized n N h) (rows-le
       pub dimension : recordDimension (written n h N rows lambda delta) ≡ n
       pub height : recordHeight (written n h N rows lambda delta) ≡ h
       pub darts : recordDarts (written n h N rows lambda delta) ≡ N
-      pub rowsBack : takeRows (written n h N rows lambda delta) lentRows lentLambda lentDelta ≡ rows
-      pub lambdaBack : takeLambda (written n h N rows lambda delta) lentRows lentLambda lentDelta ≡ lambda
-      pub deltaBack : takeDelta (written n h N rows lambda delta) lentRows lentLambda lentDelta ≡ delta
+      pub rowsBack : takeRows (written n h N rows lambda delta) lentRows lentLambda lentDelta ≡ rows ++ drop (suc n * N) lentRows
+      pub lambdaBack : takeLambda (written n h N rows lambda delta) lentRows lentLambda lentDelta ≡ lambda ++ drop N lentLambda
+      pub deltaBack : takeDelta (written n h N rows lambda delta) lentRows lentLambda lentDelta ≡ delta ++ drop N lentDelta
 
     pub round-trip : TakenBack
     round-trip =
         let at-row : (x : ℕ) → x < suc n * N → getD rows x 0 ≡ tableEntry list N false x = λ x l. let p = place n N x l in rw (p .2) at (row-value (x / N) (x % N) (p .0) (p .1)) in
         let r =
-        all-taken told header-fine rest-fine (laid-whole rows-lent rows-length at-row) (laid-whole lambda-lent lambda-length (λ x l. sym (field-body lambda-stands x (omega arith)))) (laid-whole delta-lent delta-length (λ x l. sym (field-body delta-stands x (omega arith)))) in
+        all-taken told header-fine rest-fine (laid-list rows rows-lent rows-length at-row) (laid-list lambda lambda-lent lambda-length (λ x l. sym (field-body lambda-stands x (omega arith)))) (laid-list delta delta-lent delta-length (λ x l. sym (field-body delta-stands x (omega arith)))) in
         record {
           verdict = lent-is told ∙ rw (header-fine, rest-fine);
           dimension = sym (told .dimension);

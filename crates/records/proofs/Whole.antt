@@ -28,7 +28,7 @@ regroup accepted accepted accepted accepted (refused k l i x) f g = refl
 regroup accepted accepted accepted accepted accepted f g = refl
 
 -- the body of an accepted field lies in the record
-field-room : (bytes : List ℕ) (at tag size : ℕ) → field bytes at tag size ≡ accepted → at + 3 + size ≤ length bytes
+pub field-room : (bytes : List ℕ) (at tag size : ℕ) → field bytes at tag size ≡ accepted → at + 3 + size ≤ length bytes
 unfolding field
 field-room bytes at tag size e =
     let v₅ = when (ltb (length bytes) (at + 3 + size)) (refused 16 0 0 at) in

@@ -1,4 +1,3 @@
 pub mod Answers
 pub mod Kinds
 pub mod Parts
-pub mod Written

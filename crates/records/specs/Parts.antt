@@ -55,3 +55,7 @@ pub record Laid (value : ℕ → ℕ) (at m : ℕ) (old new : List ℕ) : Type 0
   pub long : length new ≡ length old
   pub written : (d : ℕ) → d < m → getD new (at + d) 0 ≡ value d
   pub kept : (x : ℕ) → (x < at) ⊎ (at + m ≤ x) → getD new x 0 ≡ getD old x 0
+
+-- each number of a list is below k; past its end `getD` gives 0
+abbrev pub Below : ℕ → List ℕ → Type 0
+Below k list = (x : ℕ) → getD list x 0 < k

@@ -64,18 +64,18 @@ fn copy_few_entries(bytes: &[u8], from: usize, count: usize, to: &mut [u16], at:
     }
 }
 
-// A body of bytes, copied to the front of a slice: the parts, then the last few.
-pub(crate) fn copy_bytes(bytes: &[u8], from: usize, count: usize, to: &mut [u8])
-    requires { ⌜ (from + count ≤ length (now bytes)) × (count ≤ length (now to)) ⌝ }
-    ensures { λ _. ⌜ Laid (byteFrom (now (bytes .entry)) from) 0 count (now (to .entry)) (now (to .exit)) ⌝ }
+// A body of bytes, copied: the parts, then the last few.
+pub fn copy_bytes(bytes: &[u8], from: usize, count: usize, to: &mut [u8], at: usize)
+    requires { ⌜ (from + count ≤ length (now bytes)) × (at + count ≤ length (now to)) ⌝ }
+    ensures { λ _. ⌜ Laid (byteFrom (now (bytes .entry)) from) at count (now (to .entry)) (now (to .exit)) ⌝ }
 {
     let parts = count / 128;
     for k in 0..parts {
         let done = 128 * k;
-        copy_byte_part(bytes, from + done, to, done);
+        copy_byte_part(bytes, from + done, to, at + done);
     }
     let done = 128 * parts;
-    copy_few_bytes(bytes, from + done, count - done, to, done);
+    copy_few_bytes(bytes, from + done, count - done, to, at + done);
 }
 
 // A row of one byte an entry.

@@ -5,7 +5,7 @@ use answers::Check;
 use answers::Dim;
 use answers::Level;
 use answers::Refusal;
-use copying::copy_bytes;
+pub use copying::copy_bytes;
 use copying::copy_narrow;
 use copying::copy_wide;
 ghost use mathlib.Core.Path.{_≡_};
@@ -287,8 +287,8 @@ fn copy_all(
     let count = darts as usize;
     let at = marks_at(n, darts, one) as usize;
     copy_rows(bytes, n, darts, one, rows);
-    copy_bytes(bytes, at + 3, count, lambda);
-    copy_bytes(bytes, at + (3 + count) + 3, count, delta);
+    copy_bytes(bytes, at + 3, count, lambda, 0);
+    copy_bytes(bytes, at + (3 + count) + 3, count, delta, 0);
 }
 
 // Take a record into lent tables: nothing lent is written before the whole record is known to be good.

@@ -5,6 +5,7 @@ use lib.Dec.{eqb}
 use Rattle.maps.specs.Verdict.{Verdict, accepted, refused, ifAccepted}
 use Rattle.maps.specs.Read.{Reading, found, none}
 use Rattle.records.specs.Answers.{Outcome}
+use Rattle.writing.specs.Answers.{Outcome as Writing}
 use Rattle.zompelgors.specs.declared.ZgRefusal.{ZgRefusal}
 use Rattle.zompelgors.specs.declared.ZgReading.{ZgReading}
 use Rattle.zompelgors.specs.declared.ZgLink.{ZgLink}
@@ -13,6 +14,7 @@ use Rattle.zompelgors.specs.declared.ZgCount.{ZgCount}
 use Rattle.zompelgors.specs.declared.ZgHeight.{ZgHeight}
 use Rattle.zompelgors.specs.declared.ZgPart.{ZgPart}
 use Rattle.zompelgors.specs.declared.ZgRecord.{ZgRecord}
+use Rattle.zompelgors.specs.declared.ZgWritten.{ZgWritten}
 
 -- a verdict
 abbrev pub refusalFor : Verdict → ZgRefusal
@@ -52,6 +54,10 @@ partFor v N l i = record { refusal = refusalFor v; unfolded = ifAccepted v (cond
 -- a verdict with n, h and N, which are 0 in a refusal
 abbrev pub recordFor : Outcome → ZgRecord
 recordFor o = record { refusal = refusalFor (o .verdict); n = o .dimension; h = o .height; darts = o .darts }
+
+-- a verdict with a length, which is 0 in a refusal
+abbrev pub writtenFor : Writing → ZgWritten
+writtenFor o = record { refusal = refusalFor (o .verdict); length = o .bytes }
 
 -- a version in one number: a byte each for the two smaller parts
 abbrev pub versionFor : ℕ → ℕ → ℕ → ℕ

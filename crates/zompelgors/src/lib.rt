@@ -18,13 +18,15 @@ ghost use Rattle.maps.specs.Row.{rowLent};
 ghost use Rattle.maps.specs.Survivors.{survivorsLent, survivorCount, survivorWords};
 ghost use Rattle.maps.specs.MarkCells.{markLent, MarkLeaves};
 ghost use Rattle.maps.specs.Record.{takeRows, takeLambda, takeDelta};
+ghost use Rattle.maps.specs.Write.{writeTable, writeLeaves};
 ghost use Rattle.answers.specs.Numbers.{refusalOf, verdictOf};
 ghost use Rattle.checking.specs.Answers.{addedOf, heightOf};
 ghost use Rattle.questions.specs.Answers.{valueOf};
 ghost use Rattle.reading.specs.Answers.{valueOf as linkOf, standsSince, checkOf, totalOf, latestOf};
 ghost use Rattle.rows.specs.Answers.{verdictOfSurvivors, countOfSurvivors};
 ghost use Rattle.records.specs.Answers.{takenOf, taken};
-ghost use Rattle.zompelgors.specs.Flat.{refusalFor, saidBy, readingFor, linkFor, countFor, unfoldingFor, heightFor, partFor, recordFor, versionFor};
+ghost use Rattle.writing.specs.Answers.{writtenOf, writing};
+ghost use Rattle.zompelgors.specs.Flat.{refusalFor, saidBy, readingFor, linkFor, countFor, unfoldingFor, heightFor, partFor, recordFor, writtenFor, versionFor};
 
 // The document's number and values; all 0 where accepted.
 #[repr(C)]
@@ -90,6 +92,13 @@ pub struct ZgRecord {
     pub n: u8,
     pub h: u8,
     pub darts: u16,
+}
+
+// The length in bytes of a record that is written.
+#[repr(C)]
+pub struct ZgWritten {
+    pub refusal: ZgRefusal,
+    pub length: u32,
 }
 
 // No refusal.
@@ -301,12 +310,28 @@ fn taken_as(answer: records::Taken) -> ZgRecord
     }
 }
 
-// The version of this interface: 4.0.0.
+// The answer of writing a record.
+fn written_as(answer: writing::Written) -> ZgWritten
+    ensures { λ r. ⌜ r ≡ writtenFor (writtenOf answer) ⌝ }
+{
+    match answer {
+        writing::Written::Bytes(length) => {
+            let refusal = accepts();
+            ZgWritten { refusal, length }
+        },
+        writing::Written::Refused(why) => {
+            let refusal = refused(why);
+            ZgWritten { refusal, length: 0 }
+        },
+    }
+}
+
+// The version of this interface: 4.1.0.
 #[no_mangle]
 pub extern "C" fn zg_version() -> u32
-    ensures { λ r. ⌜ r ≡ versionFor 4 0 0 ⌝ }
+    ensures { λ r. ⌜ r ≡ versionFor 4 1 0 ⌝ }
 {
-    262144
+    262400
 }
 
 // Checks a base.
@@ -530,4 +555,23 @@ pub extern "C" fn zg_take(
     ensures { λ _. ⌜ now (delta .exit) ≡ takeDelta (now (bytes .entry)) (now (rows .entry)) (now (lambda .entry)) (now (delta .entry)) ⌝ }
 {
     taken_as(records::take(bytes, rows, lambda, delta))
+}
+
+// Writes the record of an accepted pyramid into a lent buffer; the table is left as the check leaves it.
+#[no_mangle]
+pub extern "C" fn zg_write(
+    n: u8,
+    darts: u16,
+    h: u8,
+    rows: &[u16],
+    lambda: &[u8],
+    delta: &[u8],
+    table: &mut [u16],
+    bytes: &mut [u8],
+) -> ZgWritten
+    ensures { λ r. ⌜ r ≡ writtenFor (writing n darts h (now (rows .entry)) (now (lambda .entry)) (now (delta .entry)) (now (table .entry)) (now (bytes .entry))) ⌝ }
+    ensures { λ _. ⌜ now (table .exit) ≡ writeTable n darts h (now (rows .entry)) (now (lambda .entry)) (now (delta .entry)) (now (table .entry)) (now (bytes .entry)) ⌝ }
+    ensures { λ _. ⌜ now (bytes .exit) ≡ writeLeaves n darts h (now (rows .entry)) (now (lambda .entry)) (now (delta .entry)) (now (table .entry)) (now (bytes .entry)) ⌝ }
+{
+    written_as(writing::write(Dim(n), darts, Level(h), rows, lambda, delta, table, bytes))
 }

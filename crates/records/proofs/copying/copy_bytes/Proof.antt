@@ -11,10 +11,10 @@ use Rattle.records.proofs.copying.copy_bytes.Statement.{statement}
 use Rattle.records.proofs.copying.copy_bytes.Tie as tie
 
 abbrev Inv-loop : tie.InvT-loop
-Inv-loop bytes from count to₀ parts k₀ to k = (k ≤ parts) × Laid (byteFrom bytes from) 0 (128 * k) to₀ to
+Inv-loop bytes from count to₀ at parts k₀ to k = (k ≤ parts) × Laid (byteFrom bytes from) at (128 * k) to₀ to
 
 abbrev μ-loop : tie.MeasureT-loop
-μ-loop bytes from count to₀ parts k₀ to k = parts - k
+μ-loop bytes from count to₀ at parts k₀ to k = parts - k
 
 loop-again : tie.Need-loop-again Inv-loop μ-loop
 loop-again c =
@@ -35,10 +35,12 @@ copy-bytes-spec =
     (λ c. (zero-le, laid-none _ _ _))
     (λ c. search needs)
     (λ c. search needs)
+    (λ c. search needs)
     (λ c κs. search needs)
     (λ c. search needs)
     (λ c. search needs)
     loop-again
+    (λ c. search needs)
     (λ c. search needs)
     (λ c. search needs)
     (λ c. search needs)

@@ -1,0 +1,3 @@
+mod Put
+mod Whole
+pub mod TakenBack
