@@ -9,7 +9,6 @@ use lib.Dec.{ltb}
 use borrow.Author.Tests.{ltb-true, lt-ltb, le-ltb}
 use Rattle.maps.specs.Count.{one, count}
 use Rattle.maps.specs.Mark.{isMark}
-use Rattle.maps.specs.Table.{each}
 use Rattle.laws.proofs.Counting.{count-same, count-le}
 use Rattle.kernels.specs.Strings.{First, Along}
 use Rattle.kernels.specs.Ready.{firstOfLink, linksMade}

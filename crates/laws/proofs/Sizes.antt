@@ -1,14 +1,12 @@
 -- What accepted sizes and lengths tell. Assumes nothing.
 use mathlib.Core.Path.{_≡_}
 use mathlib.Core.Bool.{Bool, true, _&&_, not}
-use Prim.Native.Nat.{ℕ, suc, _+_, _*_, _≤_, zero-le}
-use native.Mathlib.Omega.{arith}
+use Prim.Native.Nat.{ℕ, _≤_}
 use lib.Dec.{eqb, leb, ltb}
 use borrow.Author.Tests.{ltb-false, leb-true, eqb-true, not-false}
 use Rattle.maps.specs.Verdict.{accepted, _then_}
 use Rattle.maps.specs.Sizes.{number1, number2, number3, number4, sizes}
 use Rattle.laws.proofs.Verdicts.{then-accepted, when-accepted, and-both}
-use Rattle.laws.proofs.Tables.{table-size}
 
 pub record Sized (n N h : ℕ) : Type 0 where
   pub one-dimension : 1 ≤ n
@@ -35,13 +33,6 @@ sizes-sized n N h e =
 pub lengths-exact : (exact : Bool) → number4 exact ≡ accepted → exact ≡ true
 unfolding number4
 lengths-exact exact e = not-false exact (when-accepted (not exact) 4 0 0 0 e)
-
--- accepted sizes: the exact length is small, and the code's n + 1 is the definition's
-pub table-fits : (n N h : ℕ) → sizes n N h ≡ accepted → ((n + 1) * N ≤ 20480) × (suc n * N ≡ (n + 1) * N)
-table-fits n N h e =
-    let z = sizes-sized n N h e in
-    let s = table-size n N 0 (z .dimension) (z .darts) zero-le in
-    (omega arith, s .2)
 
 -- what accepted sizes and lengths tell
 pub lent-sized : (n N h : ℕ) (fit : Bool) → sizes n N h then number4 fit ≡ accepted → Sized n N h × (fit ≡ true)

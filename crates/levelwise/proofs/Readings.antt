@@ -10,7 +10,7 @@ use borrow.Author.Tests.{lt-ltb, le-ltb, eq-eqb, ne-eqb, not-false}
 use Rattle.maps.specs.Mark.{isMark, between}
 use Rattle.maps.specs.Table.{entry, each}
 use Rattle.maps.specs.Folded.{refusedMarks}
-use Rattle.maps.specs.Walk.{Walked, ended, stopped}
+use Rattle.maps.specs.Walk.{Walked}
 use Rattle.maps.specs.ByLevels.{readBase, readLevel}
 use Rattle.answers.specs.declared.Dim.{Dim}
 use Rattle.levelwise.specs.declared.Sizes.{Sizes}

@@ -2,7 +2,7 @@
 use mathlib.Core.Path.{sym, ap, _∙_}
 use Prim.Native.Nat.{ℕ}
 use Rattle.writing.specs.Answers.{writtenOf}
-use Rattle.zompelgors.specs.Flat.{refusalFor, writtenFor}
+use Rattle.zompelgors.specs.Flat.{writtenFor}
 use Rattle.zompelgors.specs.declared.ZgRefusal.{ZgRefusal}
 use Rattle.zompelgors.specs.declared.ZgWritten.{ZgWritten}
 use borrow.Author.Needs.{needs}
