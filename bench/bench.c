@@ -16,16 +16,17 @@ struct implementation {
     __typeof__(&plain_mark_cells) mark;
     __typeof__(&plain_take) take;
     __typeof__(&plain_write) write;
+    __typeof__(&plain_decimation) decimation;
     __typeof__(&plain_survivors) survivors;
 };
 
 static const struct implementation implementations[] = {
     {"library", zg_check, zg_add, zg_unfold, zg_read, zg_read_by_levels, zg_mark_cells, zg_take, zg_write,
-     zg_survivors},
+     zg_decimation, zg_survivors},
     {"c", plain_check, plain_add, plain_unfold, plain_read, plain_read_by_levels, plain_mark_cells, plain_take,
-     plain_write, plain_survivors},
+     plain_write, plain_decimation, plain_survivors},
     {"skipping", plain_check, plain_add, plain_unfold, plain_read, plain_read_by_levels_skipping, plain_mark_cells,
-     plain_take, plain_write, plain_survivors},
+     plain_take, plain_write, plain_decimation, plain_survivors},
 };
 
 /* All that is lent. It is written once before anything is counted, so no page is touched for the first time then. */
@@ -39,6 +40,7 @@ static unsigned record_len;
 static size_t len; /* of rows and tables */
 
 static volatile unsigned reads, refusals;
+static volatile double factors;
 
 #define PYRAMID map.n, map.darts, map.h, map.rows, len, map.lambda, map.darts, map.delta, map.darts
 
@@ -103,6 +105,14 @@ static void run_write(const struct implementation *by)
     refusals += by->write(PYRAMID, table, len, written, sizeof written).refusal.number;
 }
 
+/* The level below the top, with its check. */
+static void run_decimation(const struct implementation *by)
+{
+    zg_factor r = by->decimation(PYRAMID, table, len, (uint8_t)(map.h - 1));
+    refusals += r.refusal.number;
+    factors += r.factor;
+}
+
 /* Every level. */
 static void run_survivors(const struct implementation *by)
 {
@@ -118,6 +128,7 @@ struct job {
 static const struct job jobs[] = {
     {"check", run_check}, {"add", run_add},   {"unfold", run_unfold}, {"read", run_read}, {"bylevels", run_by_levels},
     {"mark", run_mark},   {"take", run_take}, {"write", run_write},   {"survivors", run_survivors},
+    {"decimation", run_decimation},
 };
 
 /* ---------------------------------------------------------------- */

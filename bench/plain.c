@@ -828,3 +828,28 @@ zg_written plain_write(uint8_t n, uint16_t darts, uint8_t h, const uint16_t *row
     memcpy(to, delta, darts);
     return (zg_written){.length = length};
 }
+
+/* ---------------------------------------------------------------- decimation */
+
+static unsigned survivors_on(const uint8_t *lambda, unsigned darts, unsigned level)
+{
+    unsigned count = 0;
+    for (unsigned d = 0; d < darts; d++)
+        count += lambda[d] >= level;
+    return count;
+}
+
+zg_factor plain_decimation(uint8_t n, uint16_t darts, uint8_t h, const uint16_t *rows, size_t rows_len,
+                           const uint8_t *lambda, size_t lambda_len, const uint8_t *delta, size_t delta_len,
+                           uint16_t *table, size_t table_len, uint8_t level)
+{
+    zg_refusal bad = plain_check(n, darts, h, rows, rows_len, lambda, lambda_len, delta, delta_len, table, table_len);
+    if (bad.number)
+        return (zg_factor){.refusal = bad};
+    if (level >= h)
+        return RESULT(zg_factor, {11, level});
+    unsigned count = survivors_on(lambda, darts, level), next = survivors_on(lambda, darts, level + 1u);
+    if (!next)
+        return (zg_factor){.empty = 1};
+    return (zg_factor){.factor = (double)count / (double)next};
+}

@@ -15,7 +15,7 @@ set -u
 source "$(dirname "$0")/../tests/tools.sh"
 BUILD=${BUILD:-target/bench} CPU=${CPU:-qemu64}
 maps=${MAPS:-"grid2 grid3 path32 grid4 strip voxels both1 both2 both3 both4 cycle vertex"}
-jobs=${JOBS:-"check add unfold read bylevels mark take write survivors"}
+jobs=${JOBS:-"check add unfold read bylevels mark take write survivors decimation"}
 
 need_compiler
 [ "$LIB" != c ] || need "$binutils" "$OBJCOPY" --version
@@ -55,11 +55,11 @@ count() {
     with=$(instructions "$@" 1) && without=$(instructions "$@" 0) && echo $((with - without))
 }
 
-# own IMPLEMENTATION JOB MAP: what a job takes itself; a writing begins with a check, which is counted by itself.
+# own IMPLEMENTATION JOB MAP: what a job takes itself; a writing and a decimation begin with a check, which is counted by itself.
 own() {
     local all check=0
     all=$(count "$@") || return 1
-    [ "$2" != write ] || check=$(count "$1" check "$3") || return 1
+    case $2 in write | decimation) check=$(count "$1" check "$3") || return 1 ;; esac
     echo $((all - check))
 }
 
@@ -93,13 +93,13 @@ echo "x86-64 instructions, $("$CC" --version | head -n 1), -O3; $(qemu-x86_64 --
 echo "buffers cleared once before counting"
 echo
 over=0
-columns='%-9s %-22s %12s %12s %10s %8s %8s'
+columns='%-10s %-22s %12s %12s %10s %8s %8s'
 printf "$columns %7s %5s\n" job "map (n, N, h)" library C "base reads" "lib/read" "C/read" ratio most
 for job in $jobs; do
     for map in $maps; do
         lib=$(own library "$job" "$map") && c=$(own c "$job" "$map") || exit 2
         read -r n darts h reads <"$BUILD/facts"
-        printf '%-9s %-22s ' "$job" "$map ($n, $darts, $h)"
+        printf '%-10s %-22s ' "$job" "$map ($n, $darts, $h)"
         line "$lib" "$c" "$reads" "$(limit "$job" "$map")" || over=$((over + 1))
     done
 done

@@ -16,7 +16,7 @@ extern "C" {
  * answers or is lent something else than before, MINOR when something is added, PATCH when neither is seen from here.
  */
 #define ZG_VERSION_MAJOR 4
-#define ZG_VERSION_MINOR 1
+#define ZG_VERSION_MINOR 2
 #define ZG_VERSION_PATCH 0
 #define ZG_VERSION (ZG_VERSION_MAJOR * 65536 + ZG_VERSION_MINOR * 256 + ZG_VERSION_PATCH)
 
@@ -75,7 +75,7 @@ enum zg_number {
     ZG_MARKS = 8,          /* Lambda, Delta or mark not allowed */
     ZG_NOT_WHOLE = 9,      /* kernel isn't whole cells */
     ZG_NOT_REMOVABLE = 10, /* cell to be removed is not removable, or cell to be contracted not contractible */
-    ZG_NO_LEVEL = 11,      /* level above h */
+    ZG_NO_LEVEL = 11,      /* level above h; for a decimation, h or more */
     ZG_NO_DART = 12,       /* dart is N or more, or not on the level */
     ZG_NO_INVOLUTION = 13, /* involution above n; for marking, dimension n or more */
     ZG_NO_PASS = 14,       /* walk meets a removed or contracted dart that it can't pass */
@@ -136,6 +136,12 @@ typedef struct {
     zg_refusal refusal;
     uint32_t length; /* bytes of the record */
 } zg_written;
+
+typedef struct {
+    zg_refusal refusal;
+    uint8_t empty; /* 1: the next level has no dart, so there is no factor */
+    double factor; /* a level's survivors by those of the next; 0 where empty is 1 */
+} zg_factor;
 
 /* What a number says, in a phrase. */
 static inline const char *zg_refusal_text(uint16_t number)
@@ -299,6 +305,19 @@ zg_record zg_take(const uint8_t *bytes, size_t bytes_len, uint16_t *rows, size_t
 zg_written zg_write(uint8_t n, uint16_t darts, uint8_t h, const uint16_t *rows, size_t rows_len,
                     const uint8_t *lambda, size_t lambda_len, const uint8_t *delta, size_t delta_len,
                     uint16_t *table, size_t table_len, uint8_t *bytes, size_t bytes_len);
+
+/*
+ * How fast an accepted pyramid shrinks at a level below h. Lent to read: rows, (n+1)N; lambda, N; delta, N. Lent to
+ * write: table, (n+1)N.
+ * Accepted: factor is the level's survivor count by that of the next level, one division of the two counts in double
+ * precision; both are converted exactly, so it is the double nearest to their fraction. Where the next level has no
+ * dart, empty is 1 and factor 0. table holds the explicit level h.
+ * Refused 1, 2, 3, 4, 5, 6, 7, 8, 9, 10 as zg_check, which also says what table then holds; last 11 (the level asked)
+ * for a level of h or more, with level h in table.
+ */
+zg_factor zg_decimation(uint8_t n, uint16_t darts, uint8_t h, const uint16_t *rows, size_t rows_len,
+                        const uint8_t *lambda, size_t lambda_len, const uint8_t *delta, size_t delta_len,
+                        uint16_t *table, size_t table_len, uint8_t level);
 
 #ifdef __cplusplus
 }

@@ -120,6 +120,7 @@ static void print_answer(const struct call *c)
         case 'M': print_u8(c->marks, c->marks_len); break;
         case 'B': print_u8(c->bytes, c->bytes_len); break;
         case 'W': print_u64(c->words, c->words_len); break;
+        case 'F': printf(" %016llx", (unsigned long long)c->factor); break;
         }
     putchar('\n');
 }

@@ -14,13 +14,13 @@ enum { GUARD = 64, CANARY = 0xA5 };
 
 const char *const job_names[JOBS] = {
     "check_base", "check", "add", "marks", "read", "bylevels", "unfold", "row", "survivors", "mark", "take", "write",
-    "levels"
+    "decimation", "levels"
 };
 const char *const case_forms[JOBS] = {
     "nDR", "nDhRLET", "nDhRLEMT", "nDhLElM", "nDhRLElid", "nDhRLElid", "nDhRLElT", "nDhRTli", "DhLlW", "nDTiM",
-    "BRLE", "nDhRLETB", "B",
+    "BRLE", "nDhRLETB", "nDhRLETl", "B",
 };
-const char *const answer_forms[JOBS] = {"", "T", "LET", "M", "", "", "T", "", "W", "M", "RLE", "TB", ""};
+const char *const answer_forms[JOBS] = {"", "T", "LET", "M", "", "", "T", "", "W", "M", "RLE", "TB", "FT", ""};
 
 enum place call_place = BETWEEN_CANARIES;
 void (*call_failed)(void);
@@ -264,6 +264,18 @@ static void call_write(struct call *c)
     take_found(c, 1, r.length, 0, 0);
 }
 
+static void call_decimation(struct call *c)
+{
+    const uint16_t *rows = rows_in(c);
+    const uint8_t *lambda = lambda_in(c), *delta = delta_in(c);
+    uint16_t *table = table_out(c);
+    zg_factor r = zg_decimation((uint8_t)c->n, (uint16_t)c->darts, (uint8_t)c->h, rows, c->rows_len, lambda,
+                                c->lambda_len, delta, c->delta_len, table, c->table_len, (uint8_t)c->level);
+    take_refusal(c, r.refusal);
+    take_found(c, 1, r.empty, 0, 0);
+    memcpy(&c->factor, &r.factor, sizeof r.factor);
+}
+
 static bool say_refusal(struct call *levels, const struct call *step)
 {
     memcpy(levels->refusal, step->refusal, sizeof step->refusal);
@@ -323,9 +335,10 @@ void call_job(struct call *c)
 {
     static void (*const calls[JOBS])(struct call *) = {
         call_check_base, call_check, call_add, call_marks, call_read, call_by_levels, call_unfold, call_row,
-        call_survivors, call_mark, call_take, call_write, call_levels,
+        call_survivors, call_mark, call_take, call_write, call_decimation, call_levels,
     };
     c->founds = 0;
+    c->factor = 0;
     c->text[0] = 0;
     calls[c->job](c);
     take_back(c);

@@ -10,13 +10,14 @@ extern "C" {
 #endif
 
 enum job {
-    CHECK_BASE, CHECK, ADD, MARKS, READ, BY_LEVELS, UNFOLD, ROW, SURVIVORS, MARK, TAKE, WRITE, LEVELS, JOBS
+    CHECK_BASE, CHECK, ADD, MARKS, READ, BY_LEVELS, UNFOLD, ROW, SURVIVORS, MARK, TAKE, WRITE, DECIMATION,
+    LEVELS, JOBS
 };
 
 /*
  * How the vectors write the jobs, in the order of enum job: their names, what a case's line holds, and what stands in
  * the answer behind the refusal and the numbers found. n, N (D), h; rows (R), table (T), lambda (L), delta (E),
- * marks (M), words (W), bytes (B); level (l), involution or dimension (i), dart (d).
+ * marks (M), words (W), bytes (B); level (l), involution or dimension (i), dart (d); the bits of a factor (F).
  */
 extern const char *const job_names[JOBS], *const case_forms[JOBS], *const answer_forms[JOBS];
 
@@ -35,6 +36,7 @@ struct call {
     unsigned refusal[4]; /* number, level, involution, dart */
     unsigned found[3];   /* in the order of the vectors' answers */
     unsigned founds;     /* how many of them the job has */
+    uint64_t factor;     /* DECIMATION: the bits of its double */
     char text[2048];     /* LEVELS: its lines, joined by " / " */
 };
 

@@ -8,6 +8,7 @@
 #include <array>
 #include <cstdio>
 #include <cstdlib>
+#include <iomanip>
 #include <sstream>
 #include <string>
 
@@ -35,6 +36,7 @@ struct Answer {
     Refusal refusal;
     std::array<unsigned, 3> found{};
     unsigned founds = 0;
+    std::uint64_t factor = 0;
     std::string text;
 };
 
@@ -42,7 +44,7 @@ inline bool same_answer(const Answer& x, const Answer& y)
 {
     const Refusal &r = x.refusal, &s = y.refusal;
     return r.number == s.number && r.level == s.level && r.involution == s.involution && r.dart == s.dart &&
-           x.founds == y.founds && x.found == y.found && x.text == y.text;
+           x.founds == y.founds && x.found == y.found && x.factor == y.factor && x.text == y.text;
 }
 
 // ---------------------------------------------------------------- the vectors' format
@@ -143,7 +145,10 @@ inline std::string answer_line(const Case& after, const Answer& a)
     for (unsigned k = 0; k < a.founds; k++)
         out << ' ' << a.found[k];
     for (const char* item = answer_forms[after.what]; *item; item++)
-        write_item(out, after, *item);
+        if (*item == 'F')
+            out << ' ' << std::hex << std::setw(16) << std::setfill('0') << a.factor << std::dec;
+        else
+            write_item(out, after, *item);
     return out.str();
 }
 
@@ -187,6 +192,12 @@ inline void answer_or_throw(Case& c, Answer& a)
         break;
     }
     case WRITE: found(a, by::write(c.n, c.darts, c.h, c.rows, c.lambda, c.delta, c.table, c.bytes)); break;
+    case DECIMATION: {
+        const auto r = by::decimation(c.n, c.darts, c.h, c.rows, c.lambda, c.delta, c.table, c.level);
+        found(a, r.empty);
+        a.factor = r.factor;
+        break;
+    }
     case LEVELS: a.text = by::levels(c.bytes); break;
     case JOBS: break;
     }
@@ -194,7 +205,7 @@ inline void answer_or_throw(Case& c, Answer& a)
 
 inline Answer answer_independently(Case& c)
 {
-    static const unsigned founds[JOBS] = {0, 0, 1, 0, 3, 2, 2, 3, 1, 0, 3, 1, 0};
+    static const unsigned founds[JOBS] = {0, 0, 1, 0, 3, 2, 2, 3, 1, 0, 3, 1, 1, 0};
     Answer a;
     a.founds = founds[c.what];
     if (c.what == ADD)
@@ -241,6 +252,7 @@ inline Answer answer_by_library(Case& c)
     a.founds = k.founds;
     for (unsigned x = 0; x < k.founds; x++)
         a.found[x] = k.found[x];
+    a.factor = k.factor;
     a.text = k.text;
     return a;
 }

@@ -30,6 +30,9 @@ SAME(size_of_record, sizeof(zg_record), 12);
 SAME(place_of_n, offsetof(zg_record, n), 8);
 SAME(place_of_h, offsetof(zg_record, h), 9);
 SAME(place_of_darts, offsetof(zg_record, darts), 10);
+SAME(size_of_factor, sizeof(zg_factor), 24);
+SAME(place_of_empty, offsetof(zg_factor, empty), 8);
+SAME(place_of_factor, offsetof(zg_factor, factor), 16);
 
 /* Every answer begins with its refusal. */
 SAME(first_of_reading, offsetof(zg_reading, refusal), 0);
@@ -39,6 +42,7 @@ SAME(first_of_count, offsetof(zg_count, refusal), 0);
 SAME(first_of_height, offsetof(zg_height, refusal), 0);
 SAME(first_of_part, offsetof(zg_part, refusal), 0);
 SAME(first_of_record, offsetof(zg_record, refusal), 0);
+SAME(first_of_factor, offsetof(zg_factor, refusal), 0);
 
 static int fail(const char *what)
 {

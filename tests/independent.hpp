@@ -684,6 +684,39 @@ inline unsigned write(unsigned n, unsigned darts, unsigned h, const Entries& row
     return unsigned(record.size());
 }
 
+// The bits of the double nearest to a / b, for a >= b: 53 binary digits from the first 1 on by long division, rounded by
+// what is left, to the even one at a tie.
+inline std::uint64_t nearest_double(std::uint64_t a, std::uint64_t b)
+{
+    std::uint64_t exponent = 1023, digits = 0;
+    for (; a >= 2 * b; exponent++)
+        b *= 2;
+    for (unsigned k = 0; k < 53; k++) {
+        const bool one = a >= b;
+        digits = 2 * digits + one;
+        a = 2 * (a - (one ? b : 0));
+    }
+    digits += a > b || (a == b && digits % 2);
+    return (exponent << 52) + (digits - (std::uint64_t(1) << 52));
+}
+
+struct Factor {
+    bool empty;
+    std::uint64_t factor; // bits
+};
+
+inline Factor decimation(unsigned n, unsigned darts, unsigned h, const Entries& rows, const Bytes& lambda,
+                         const Bytes& delta, Entries& table, unsigned level)
+{
+    check(n, darts, h, rows, lambda, delta, table);
+    demand(level < h, 11, level);
+    const auto on = [&](unsigned l) {
+        return std::uint64_t(std::count_if(lambda.begin(), lambda.end(), [&](unsigned at) { return at >= l; }));
+    };
+    const std::uint64_t next = on(level + 1);
+    return next ? Factor{false, nearest_double(on(level), next)} : Factor{true, 0};
+}
+
 // What the program levels prints, its lines joined by " / ".
 inline std::string levels(const Bytes& bytes)
 {

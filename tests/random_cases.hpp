@@ -496,6 +496,8 @@ inline Case random_case(Random& r, const Pyramid& source)
         lend_record(r, c);
     if (c.what == WRITE)
         lend_buffer(r, c);
+    if (c.what == DECIMATION && c.h > 0 && r.chance(90))
+        c.level = r.below(c.h);
     drop_the_rest(c);
     if (c.what != TAKE && c.what != LEVELS)
         damage(r, c);

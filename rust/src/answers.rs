@@ -112,6 +112,15 @@ pub struct Header {
     pub darts: u16,
 }
 
+/// How fast a pyramid shrinks from a level to the next.
+#[derive(Clone, Copy, Debug, PartialEq)]
+pub enum Factor {
+    /// The level's survivors by those of the next: the double nearest to the fraction of the two counts.
+    By(f64),
+    /// The next level has no dart.
+    Empty,
+}
+
 impl raw::ZgRefusal {
     pub(crate) fn accepted(self) -> Result<(), Refusal> {
         match self.number {
@@ -139,4 +148,4 @@ macro_rules! accepted {
     };
 }
 
-accepted!(ZgReading, ZgLink, ZgUnfolding, ZgCount, ZgHeight, ZgPart, ZgRecord, ZgWritten);
+accepted!(ZgReading, ZgLink, ZgUnfolding, ZgCount, ZgHeight, ZgPart, ZgRecord, ZgWritten, ZgFactor);

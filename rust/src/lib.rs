@@ -37,7 +37,7 @@ mod owned;
 mod pyramid;
 pub mod raw;
 
-pub use answers::{Dimension, Header, Level, Link, Reading, Refusal, Unfolding};
+pub use answers::{Dimension, Factor, Header, Level, Link, Reading, Refusal, Unfolding};
 pub use owned::PyramidBuf;
 pub use pyramid::Pyramid;
 

@@ -1,5 +1,5 @@
 //! A folded pyramid, borrowed, and the jobs that take one.
-use crate::answers::{Dimension, Level, Link, Reading, Refusal, Unfolding};
+use crate::answers::{Dimension, Factor, Level, Link, Reading, Refusal, Unfolding};
 use crate::raw;
 
 /// The question, put to one of the two readings.
@@ -78,6 +78,32 @@ impl<'a> Pyramid<'a> {
             )
         };
         answer.accepted().map(|r| r.length as usize)
+    }
+
+    /// Checks the whole pyramid; then, by which factor it shrinks from a level below h to the next. The table is left as
+    /// [`Pyramid::check`] leaves it; a level of h or more is refused 11, after all others.
+    pub fn decimation(&self, table: &mut [u16], level: Level) -> Result<Factor, Refusal> {
+        // Safety: every pointer comes from a slice with its own length, and only the exclusive one is written through.
+        let answer = unsafe {
+            raw::zg_decimation(
+                self.n.0,
+                self.darts,
+                self.h.0,
+                self.rows.as_ptr(),
+                self.rows.len(),
+                self.lambda.as_ptr(),
+                self.lambda.len(),
+                self.delta.as_ptr(),
+                self.delta.len(),
+                table.as_mut_ptr(),
+                table.len(),
+                level.0,
+            )
+        };
+        answer.accepted().map(|r| match r.empty {
+            0 => Factor::By(r.factor),
+            _ => Factor::Empty,
+        })
     }
 
     /// One neighbour on a level by the direct walk, on any tables, checked before or not, and since which level the

@@ -41,6 +41,8 @@ answers! {
     ZgRecord { n: u8, h: u8, darts: u16 }
     /// `zg_written`: bytes of the record.
     ZgWritten { length: u32 }
+    /// `zg_factor`: empty 1: the next level has no dart.
+    ZgFactor { empty: u8, factor: f64 }
 }
 
 extern "C" {
@@ -194,4 +196,19 @@ extern "C" {
         bytes: *mut u8,
         bytes_len: usize,
     ) -> ZgWritten;
+
+    pub fn zg_decimation(
+        n: u8,
+        darts: u16,
+        h: u8,
+        rows: *const u16,
+        rows_len: usize,
+        lambda: *const u8,
+        lambda_len: usize,
+        delta: *const u8,
+        delta_len: usize,
+        table: *mut u16,
+        table_len: usize,
+        level: u8,
+    ) -> ZgFactor;
 }

@@ -1,7 +1,7 @@
 //! The structs have the sizes, alignments and offsets that gcc gives those of include/zompelgors.h on x86-64.
 use std::mem::{align_of, size_of};
 use zompelgors::raw::{
-    ZgCount, ZgHeight, ZgLink, ZgPart, ZgReading, ZgRecord, ZgRefusal, ZgUnfolding,
+    ZgCount, ZgFactor, ZgHeight, ZgLink, ZgPart, ZgReading, ZgRecord, ZgRefusal, ZgUnfolding,
 };
 
 fn layout<T>() -> (usize, usize) {
@@ -18,6 +18,7 @@ fn sizes_and_alignments() {
     assert_eq!(layout::<ZgHeight>(), (10, 2));
     assert_eq!(layout::<ZgPart>(), (14, 2));
     assert_eq!(layout::<ZgRecord>(), (12, 2));
+    assert_eq!(layout::<ZgFactor>(), (24, 8));
 }
 
 macro_rules! offset {
@@ -45,6 +46,8 @@ fn offsets() {
     assert_eq!(offset!(ZgRecord, n), 8);
     assert_eq!(offset!(ZgRecord, h), 9);
     assert_eq!(offset!(ZgRecord, darts), 10);
+    assert_eq!(offset!(ZgFactor, empty), 8);
+    assert_eq!(offset!(ZgFactor, factor), 16);
 }
 
 #[test]
@@ -56,4 +59,5 @@ fn every_answer_begins_with_its_refusal() {
     assert_eq!(offset!(ZgHeight, refusal), 0);
     assert_eq!(offset!(ZgPart, refusal), 0);
     assert_eq!(offset!(ZgRecord, refusal), 0);
+    assert_eq!(offset!(ZgFactor, refusal), 0);
 }

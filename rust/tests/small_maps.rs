@@ -1,7 +1,7 @@
 //! The small maps of docs/SCOPE.md, read through the binding.
 use zompelgors::{
-    add, check_base, mark_cells, row, survivors, Dimension, Level, Link, Pyramid, PyramidBuf,
-    Refusal, Unfolding, ABSENT, STAY, WORDS,
+    add, check_base, mark_cells, row, survivors, Dimension, Factor, Level, Link, Pyramid,
+    PyramidBuf, Refusal, Unfolding, ABSENT, STAY, WORDS,
 };
 
 const SQUARE: [u16; 16] = [1, 0, 3, 2, 5, 4, 7, 6, 7, 2, 1, 4, 3, 6, 5, 0];
@@ -167,6 +167,23 @@ fn p8_p9_star() {
     assert_eq!(star.read(1, 1, 4).map(|r| r.neighbour), Ok(1));
     assert_eq!(star.read(2, 0, 7), link(10, 5, 2));
     assert_eq!(star.lend().check(&mut [0; 36]), Ok(()));
+}
+
+#[test]
+fn star_shrinks() {
+    let star = star();
+    let decimation = |level| star.lend().decimation(&mut [0; 36], Level(level));
+    assert_eq!(decimation(0), Ok(Factor::By(1.5)));
+    assert_eq!(decimation(1), Ok(Factor::By(2.0)));
+    assert_eq!(decimation(2), Err(refused(11, 2, 0, 0)));
+}
+
+#[test]
+fn segment_shrinks_to_nothing() {
+    let mut segment = Grown::new(1, &[1, 0, 0, 1]);
+    assert_eq!(segment.add(Dimension(0), &[0, 1]), Ok(Level(1)));
+    let factor = segment.lend().decimation(&mut [0; 4], Level(0));
+    assert_eq!(factor, Ok(Factor::Empty));
 }
 
 #[test]

@@ -3,6 +3,7 @@ use mathlib.Core.Path.{_≡_, refl}
 use mathlib.Core.Bool.{true, false}
 use mathlib.Core.List.{List, [], _∷_}
 use Prim.Native.Nat.{ℕ, zero, suc}
+use lib.Ieee.{Float, binary64, div, ofInt, round, ofBits}
 use Rattle.maps.specs.Verdict.{Verdict, accepted, refused, scan}
 use Rattle.maps.specs.Count.{count, sum}
 use Rattle.maps.specs.Mark.{isMark, between, hasBeyond, beyond, across}
@@ -13,6 +14,9 @@ use Rattle.maps.specs.Walk.{Walked, ended, stopped, walkFrom, walk}
 use Rattle.maps.specs.Trail.{sinceOf, largest, trailFrom, trail, since, latest}
 use Rattle.maps.specs.ByLevels.{readBase, overLevel, readLevel, byLevels}
 use Rattle.maps.specs.Cost.{reads, cost}
+use Rattle.maps.specs.Sizes.{number1, number2, number3, sizes, number4}
+use Rattle.maps.specs.CheckPyramid.{checkLent}
+use Rattle.maps.specs.Decimation.{decimationLent, decimationEmpty, decimationFactor}
 use Rattle.maps.specs.Check.{at5, at6, at7, check5, check6, check7, checkMap, at9, at10, check9, check10, checkKernel, at8, check8, kernelAt, checkKernels, checkPyramid}
 
 -- a folded pyramid as it is lent: n, N, h, rows, Λ, Δ
@@ -151,6 +155,30 @@ small-links = record {
   corner-links = (refl, refl, refl, refl);
   star-links = (refl, refl, refl, refl);
   star-trails = (refl, refl);
+}
+
+-- ---- how fast it shrinks: what is asked of a level, the rows lent as the table
+
+abbrev asked : Lent → ℕ → Verdict
+asked p l = decimationLent p.n p.N p.h p.rows p.lambda p.delta p.rows l
+
+abbrev isEmpty : Lent → ℕ → ℕ
+isEmpty p l = decimationEmpty p.n p.N p.h p.rows p.lambda p.delta p.rows l
+
+abbrev factor : Lent → ℕ → Float
+factor p l = decimationFactor p.n p.N p.h p.rows p.lambda p.delta p.rows l
+
+pub record SmallFactors : Type 0 where
+  -- the star has 12, 8 and 4 survivors: 1.5, then 2, by their bits
+  pub star-factors : (factor star 0 ≡ ofBits binary64 0x3ff8000000000000) × (factor star 1 ≡ ofBits binary64 0x4000000000000000) × (isEmpty star 0 ≡ 0) × (asked star 2 ≡ refused 11 2 0 0)
+  -- the segment without its vertices has no dart: no factor
+  pub segment-empty : (asked both 0 ≡ accepted) × (isEmpty both 0 ≡ 1) × (factor both 0 ≡ ofBits binary64 0)
+
+pub small-factors : SmallFactors
+unfolding isMark between hasBeyond beyond scan count goOn removal level at5 at6 at7 check5 check6 check7 checkMap at9 at10 check9 check10 checkKernel at8 check8 kernelAt checkKernels checkPyramid number1 number2 number3 sizes number4 checkLent decimationLent decimationEmpty decimationFactor div ofInt round ofBits
+small-factors = record {
+  star-factors = (refl, refl, refl, refl);
+  segment-empty = (refl, refl, refl);
 }
 
 -- ---- contraction

@@ -29,4 +29,5 @@ pub mod Survivors
 pub mod MarkCells
 pub mod Record
 pub mod Write
+pub mod Decimation
 pub mod Accepted

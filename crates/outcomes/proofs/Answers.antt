@@ -33,6 +33,10 @@ use Rattle.records.specs.declared.Taken.the-variants.{Record, Refused as NotTak
 use Rattle.writing.specs.Answers.{Outcome as Writing, writtenOf}
 use Rattle.writing.specs.declared.Written.{Written}
 use Rattle.writing.specs.declared.Written.the-variants.{Bytes, Refused as NotWritten}
+use Rattle.maps.specs.Decimation.{double}
+use Rattle.shrinking.specs.Answers.{Outcome as Shrinking, factorOf}
+use Rattle.shrinking.specs.declared.Factor.{Factor}
+use Rattle.shrinking.specs.declared.Factor.the-variants.{By, Empty, Refused as NotAnswered}
 
 abbrev level : ℕ → Level
 level l = record { 0 = l }
@@ -155,6 +159,15 @@ writtenFrom x = fromVerdict (Bytes (x .bytes)) NotWritten (x .verdict)
 pub written-told : (w : Written) → writtenFrom (writtenOf w) ≡ w
 written-told (Bytes length) = refl
 written-told (NotWritten r) = refusal-told (λ v. writtenFrom (record { verdict = v; bytes = 0 })) NotWritten (λ k l i d. refl) r
+
+-- the answer of a decimation
+abbrev pub factorFrom : Shrinking → Factor
+factorFrom x = fromVerdict (cond (eqb (x .empty) 0) (By (x .factor)) Empty) NotAnswered (x .verdict)
+
+pub factor-told : (f : Factor) → factorFrom (factorOf f) ≡ f
+factor-told (By factor) = refl
+factor-told Empty = refl
+factor-told (NotAnswered r) = refusal-told (λ v. factorFrom (record { verdict = v; empty = 0; factor = double 0 })) NotAnswered (λ k l i d. refl) r
 
 -- the four numbers of a refusal
 abbrev pub numbersFrom : Verdict → Numbers

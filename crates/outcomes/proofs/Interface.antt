@@ -15,6 +15,7 @@ use Rattle.zompelgors.proofs.zg_survivors.Reads as survivors
 use Rattle.zompelgors.proofs.zg_mark_cells.Reads as mark-cells
 use Rattle.zompelgors.proofs.zg_take.Reads as take
 use Rattle.zompelgors.proofs.zg_write.Reads as write
+use Rattle.zompelgors.proofs.zg_decimation.Reads as decimation
 use Rattle.outcomes.proofs.One.{OneOutcome, one-outcome, nothing, three, same-three, pair, same-pair}
 use Rattle.outcomes.proofs.Cells.{marking-same}
 
@@ -64,3 +65,7 @@ zg-take-one κs = one-outcome _ _ _ (λ a r. r) (λ r. r) (λ a r. refl) _ _ (λ
 -- the table and the buffer
 pub zg-write-one : (κs : Lfts 5) → OneOutcome (write.Learnt κs) (λ r. r) (λ s. pair (now (s .1 .1 .1 .1 .1 .1 .0)) (now (s .1 .1 .1 .1 .1 .1 .1 .0)))
 zg-write-one κs = one-outcome _ _ _ (λ a r. r) (λ r. r) (λ a r. refl) _ _ (λ a r s c. (c .0, same-pair (c .1 .0) (c .1 .1)))
+
+-- the table
+pub zg-decimation-one : (κs : Lfts 4) → OneOutcome (decimation.Learnt κs) (λ r. r) (λ s. now (s .1 .1 .1 .1 .1 .1 .0))
+zg-decimation-one κs = one-outcome _ _ _ (λ a r. r) (λ r. r) (λ a r. refl) _ _ (λ a r s c. c)

@@ -6,6 +6,7 @@ use Rattle.answers.specs.Numbers.{verdictOf, said}
 use Rattle.questions.specs.Answers.{valueOf}
 use Rattle.records.specs.Answers.{takenOf}
 use Rattle.writing.specs.Answers.{writtenOf}
+use Rattle.shrinking.specs.Answers.{factorOf}
 use Rattle.answers.proofs.sizes.Reads as sizes
 use Rattle.answers.proofs.both.Reads as both
 use Rattle.answers.proofs.row_fits.Reads as row-fits
@@ -33,8 +34,9 @@ use Rattle.levelwise.proofs.read_by_levels.Reads as by-levels
 use Rattle.cells.proofs.mark_cells.Reads as mark-cells
 use Rattle.records.proofs.take.Reads as take
 use Rattle.writing.proofs.write.Reads as write
+use Rattle.shrinking.proofs.decimation.Reads as decimation
 use Rattle.outcomes.proofs.One.{OneOutcome, one-outcome, nothing, three, same-three, pair, same-pair}
-use Rattle.outcomes.proofs.Answers.{checkFrom, check-told, readingFrom, reading-told, valuesOfLink, linkFrom, link-told, valuesOfTotal, totalFrom, total-told, valuesOfSurvivors, survivorsFrom, survivors-told, valuesOfAdded, addedFrom, added-told, takenFrom, taken-told, writtenFrom, written-told, numbersFrom, numbers-told}
+use Rattle.outcomes.proofs.Answers.{checkFrom, check-told, readingFrom, reading-told, valuesOfLink, linkFrom, link-told, valuesOfTotal, totalFrom, total-told, valuesOfSurvivors, survivorsFrom, survivors-told, valuesOfAdded, addedFrom, added-told, takenFrom, taken-told, writtenFrom, written-told, factorFrom, factor-told, numbersFrom, numbers-told}
 use Rattle.outcomes.proofs.Cells.{marking-same}
 
 pub check-base-one : (κs : Lfts 1) → OneOutcome (check-base.Learnt κs) (λ r. r) nothing
@@ -95,6 +97,10 @@ take-one κs =
 -- the table and the buffer
 pub write-one : (κs : Lfts 5) → OneOutcome (write.Learnt κs) (λ r. r) (λ s. pair (now (s .1 .1 .1 .1 .1 .1 .0)) (now (s .1 .1 .1 .1 .1 .1 .1 .0)))
 write-one κs = one-outcome _ _ _ (λ a. writtenOf) writtenFrom (λ a. written-told) _ _ (λ a r s c. (c .0, same-pair (c .1 .0) (c .1 .1)))
+
+-- the table
+pub decimation-one : (κs : Lfts 4) → OneOutcome (decimation.Learnt κs) (λ r. r) (λ s. now (s .1 .1 .1 .1 .1 .1 .0))
+decimation-one κs = one-outcome _ _ _ (λ a. factorOf) factorFrom (λ a. factor-told) _ _ (λ a r s c. c)
 
 -- what jobs share
 pub sizes-one : (κs : Lfts 0) → OneOutcome (sizes.Learnt κs) (λ r. r) nothing

@@ -6,6 +6,7 @@ use Rattle.maps.specs.Verdict.{Verdict, accepted, refused, ifAccepted}
 use Rattle.maps.specs.Read.{Reading, found, none}
 use Rattle.records.specs.Answers.{Outcome}
 use Rattle.writing.specs.Answers.{Outcome as Writing}
+use Rattle.shrinking.specs.Answers.{Outcome as Shrinking}
 use Rattle.zompelgors.specs.declared.ZgRefusal.{ZgRefusal}
 use Rattle.zompelgors.specs.declared.ZgReading.{ZgReading}
 use Rattle.zompelgors.specs.declared.ZgLink.{ZgLink}
@@ -15,6 +16,7 @@ use Rattle.zompelgors.specs.declared.ZgHeight.{ZgHeight}
 use Rattle.zompelgors.specs.declared.ZgPart.{ZgPart}
 use Rattle.zompelgors.specs.declared.ZgRecord.{ZgRecord}
 use Rattle.zompelgors.specs.declared.ZgWritten.{ZgWritten}
+use Rattle.zompelgors.specs.declared.ZgFactor.{ZgFactor}
 
 -- a verdict
 abbrev pub refusalFor : Verdict → ZgRefusal
@@ -58,6 +60,10 @@ recordFor o = record { refusal = refusalFor (o .verdict); n = o .dimension; h = 
 -- a verdict with a length, which is 0 in a refusal
 abbrev pub writtenFor : Writing → ZgWritten
 writtenFor o = record { refusal = refusalFor (o .verdict); length = o .bytes }
+
+-- a verdict with whether the next level has no dart, and a factor; both are 0 in a refusal
+abbrev pub factorFor : Shrinking → ZgFactor
+factorFor o = record { refusal = refusalFor (o .verdict); empty = o .empty; factor = o .factor }
 
 -- a version in one number: a byte each for the two smaller parts
 abbrev pub versionFor : ℕ → ℕ → ℕ → ℕ

@@ -19,6 +19,7 @@ ghost use Rattle.maps.specs.Survivors.{survivorsLent, survivorCount, survivorWo
 ghost use Rattle.maps.specs.MarkCells.{markLent, MarkLeaves};
 ghost use Rattle.maps.specs.Record.{takeRows, takeLambda, takeDelta};
 ghost use Rattle.maps.specs.Write.{writeTable, writeLeaves};
+ghost use Rattle.maps.specs.Decimation.{decimationTable};
 ghost use Rattle.answers.specs.Numbers.{refusalOf, verdictOf};
 ghost use Rattle.checking.specs.Answers.{addedOf, heightOf};
 ghost use Rattle.questions.specs.Answers.{valueOf};
@@ -26,7 +27,8 @@ ghost use Rattle.reading.specs.Answers.{valueOf as linkOf, standsSince, checkOf
 ghost use Rattle.rows.specs.Answers.{verdictOfSurvivors, countOfSurvivors};
 ghost use Rattle.records.specs.Answers.{takenOf, taken};
 ghost use Rattle.writing.specs.Answers.{writtenOf, writing};
-ghost use Rattle.zompelgors.specs.Flat.{refusalFor, saidBy, readingFor, linkFor, countFor, unfoldingFor, heightFor, partFor, recordFor, writtenFor, versionFor};
+ghost use Rattle.shrinking.specs.Answers.{factorOf, decimating};
+ghost use Rattle.zompelgors.specs.Flat.{refusalFor, saidBy, readingFor, linkFor, countFor, unfoldingFor, heightFor, partFor, recordFor, writtenFor, factorFor, versionFor};
 
 // The document's number and values; all 0 where accepted.
 #[repr(C)]
@@ -99,6 +101,14 @@ pub struct ZgRecord {
 pub struct ZgWritten {
     pub refusal: ZgRefusal,
     pub length: u32,
+}
+
+// By which factor the survivors become fewer, or that the next level has no dart (empty 1, factor 0).
+#[repr(C)]
+pub struct ZgFactor {
+    pub refusal: ZgRefusal,
+    pub empty: u8,
+    pub factor: f64,
 }
 
 // No refusal.
@@ -326,12 +336,44 @@ fn written_as(answer: writing::Written) -> ZgWritten
     }
 }
 
-// The version of this interface: 4.1.0.
+// The answer of a decimation.
+fn factor_as(answer: shrinking::Factor) -> ZgFactor
+    ensures { λ r. ⌜ r ≡ factorFor (factorOf answer) ⌝ }
+{
+    match answer {
+        shrinking::Factor::By(factor) => {
+            let refusal = accepts();
+            ZgFactor {
+                refusal,
+                empty: 0,
+                factor,
+            }
+        },
+        shrinking::Factor::Empty => {
+            let refusal = accepts();
+            ZgFactor {
+                refusal,
+                empty: 1,
+                factor: 0.0,
+            }
+        },
+        shrinking::Factor::Refused(why) => {
+            let refusal = refused(why);
+            ZgFactor {
+                refusal,
+                empty: 0,
+                factor: 0.0,
+            }
+        },
+    }
+}
+
+// The version of this interface: 4.2.0.
 #[no_mangle]
 pub extern "C" fn zg_version() -> u32
-    ensures { λ r. ⌜ r ≡ versionFor 4 1 0 ⌝ }
+    ensures { λ r. ⌜ r ≡ versionFor 4 2 0 ⌝ }
 {
-    262400
+    262656
 }
 
 // Checks a base.
@@ -574,4 +616,31 @@ pub extern "C" fn zg_write(
     ensures { λ _. ⌜ now (bytes .exit) ≡ writeLeaves n darts h (now (rows .entry)) (now (lambda .entry)) (now (delta .entry)) (now (table .entry)) (now (bytes .entry)) ⌝ }
 {
     written_as(writing::write(Dim(n), darts, Level(h), rows, lambda, delta, table, bytes))
+}
+
+// By which factor an accepted pyramid shrinks from a level to the next; the table is left as the check leaves it.
+#[no_mangle]
+pub extern "C" fn zg_decimation(
+    n: u8,
+    darts: u16,
+    h: u8,
+    rows: &[u16],
+    lambda: &[u8],
+    delta: &[u8],
+    table: &mut [u16],
+    level: u8,
+) -> ZgFactor
+    ensures { λ r. ⌜ r ≡ factorFor (decimating n darts h (now (rows .entry)) (now (lambda .entry)) (now (delta .entry)) (now (table .entry)) level) ⌝ }
+    ensures { λ _. ⌜ now (table .exit) ≡ decimationTable n darts h (now (rows .entry)) (now (lambda .entry)) (now (delta .entry)) (now (table .entry)) level ⌝ }
+{
+    factor_as(shrinking::decimation(
+        Dim(n),
+        darts,
+        Level(h),
+        rows,
+        lambda,
+        delta,
+        table,
+        Level(level),
+    ))
 }

@@ -1,0 +1,3 @@
+mod Counted
+mod Whole
+pub mod Exact
