@@ -92,10 +92,11 @@ static void run_mark(const struct implementation *by)
     }
 }
 
+/* With its check. */
 static void run_take(const struct implementation *by)
 {
     refusals += by->take(record, record_len, taken.rows, ZG_MOST_ENTRIES, taken.lambda, ZG_MOST_DARTS, taken.delta,
-                         ZG_MOST_DARTS)
+                         ZG_MOST_DARTS, table, ZG_MOST_ENTRIES)
                     .refusal.number;
 }
 

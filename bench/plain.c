@@ -753,7 +753,7 @@ static void take_row(uint16_t *row, const uint8_t *body, unsigned darts, bool on
 }
 
 zg_record plain_take(const uint8_t *bytes, size_t bytes_len, uint16_t *rows, size_t rows_len, uint8_t *lambda,
-                     size_t lambda_len, uint8_t *delta, size_t delta_len)
+                     size_t lambda_len, uint8_t *delta, size_t delta_len, uint16_t *table, size_t table_len)
 {
     unsigned bad = bad_field(bytes, bytes_len, 0, 0x01, 4);
     if (bad)
@@ -773,12 +773,17 @@ zg_record plain_take(const uint8_t *bytes, size_t bytes_len, uint16_t *rows, siz
             return RESULT(zg_record, {bad, .dart = (uint16_t)at});
     if (at != bytes_len)
         return RESULT(zg_record, {19, .dart = (uint16_t)at});
-    if (rows_len < (size_t)(n + 1) * darts || lambda_len < darts || delta_len < darts)
+    size_t entries = (size_t)(n + 1) * darts;
+    if (rows_len < entries || lambda_len < darts || delta_len < darts || table_len < entries)
         return RESULT(zg_record, {4});
     for (unsigned i = 0; i <= n; i++)
         take_row(rows + i * darts, bytes + 10 + i * (3 + length), darts, one_byte);
     memcpy(lambda, bytes + at - 3 - 2 * darts, darts);
     memcpy(delta, bytes + at - darts, darts);
+    zg_refusal checked = plain_check((uint8_t)n, (uint16_t)darts, (uint8_t)h, rows, entries, lambda, darts, delta, darts,
+                                     table, entries);
+    if (checked.number)
+        return RESULT(zg_record, checked);
     return RESULT(zg_record, .n = (uint8_t)n, .h = (uint8_t)h, .darts = (uint16_t)darts);
 }
 

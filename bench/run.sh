@@ -55,11 +55,11 @@ count() {
     with=$(instructions "$@" 1) && without=$(instructions "$@" 0) && echo $((with - without))
 }
 
-# own IMPLEMENTATION JOB MAP: what a job takes itself; a writing and a decimation begin with a check, which is counted by itself.
+# own IMPLEMENTATION JOB MAP: what a job takes itself; a taking ends, a writing and a decimation begin with a check, which is counted by itself.
 own() {
     local all check=0
     all=$(count "$@") || return 1
-    case $2 in write | decimation) check=$(count "$1" check "$3") || return 1 ;; esac
+    case $2 in take | write | decimation) check=$(count "$1" check "$3") || return 1 ;; esac
     echo $((all - check))
 }
 

@@ -1,4 +1,4 @@
-/* Takes a record, checks it, unfolds a level and prints its rows: unfold RECORD LEVEL. A refusal is said in words. */
+/* Takes a record, unfolds a level and prints its rows: unfold RECORD LEVEL. A refusal is said in words. */
 #include "zompelgors.h"
 #include <stdio.h>
 #include <stdlib.h>
@@ -19,9 +19,10 @@ int main(int argc, char **argv)
     if (!file || zg_version() != ZG_VERSION)
         return 2;
     size_t length = fread(bytes, 1, sizeof bytes, file), k;
-    zg_record r = zg_take(bytes, length, rows, ZG_MOST_ENTRIES, lambda, ZG_MOST_DARTS, delta, ZG_MOST_DARTS);
+    zg_record r = zg_take(bytes, length, rows, ZG_MOST_ENTRIES, lambda, ZG_MOST_DARTS, delta, ZG_MOST_DARTS, table,
+                          ZG_MOST_ENTRIES);
     size_t entries = (r.n + 1u) * r.darts, N = r.darts;
-    if (refused(r.refusal) || refused(zg_check(r.n, r.darts, r.h, rows, entries, lambda, N, delta, N, table, entries)))
+    if (refused(r.refusal))
         return 1;
     uint8_t level = (uint8_t)atoi(argv[2]);
     if (refused(zg_unfold(r.n, r.darts, r.h, rows, entries, lambda, N, delta, N, level, table, entries).refusal))

@@ -15,8 +15,8 @@ extern "C" {
  * belong together. Names, the order of arguments and the first field of every answer stay. MAJOR rises when a function
  * answers or is lent something else than before, MINOR when something is added, PATCH when neither is seen from here.
  */
-#define ZG_VERSION_MAJOR 4
-#define ZG_VERSION_MINOR 2
+#define ZG_VERSION_MAJOR 5
+#define ZG_VERSION_MINOR 0
 #define ZG_VERSION_PATCH 0
 #define ZG_VERSION (ZG_VERSION_MAJOR * 65536 + ZG_VERSION_MINOR * 256 + ZG_VERSION_PATCH)
 
@@ -283,15 +283,18 @@ zg_refusal zg_mark_cells(uint8_t n, uint16_t darts, const uint16_t *table, size_
                          uint8_t *marks, size_t marks_len);
 
 /*
- * Takes a record into lent memory; its values are not checked (zg_check does that). Lent to read: bytes, the record,
- * of any length. Lent to write: rows, (n+1)N or more; lambda, N or more; delta, N or more. ZG_MOST_ENTRIES,
- * ZG_MOST_DARTS and ZG_MOST_DARTS entries are enough for every record.
- * Accepted: n, h, darts, and the record's rows, Lambda and Delta at the front; the rest of a longer slice is untouched.
+ * Takes a record into lent memory and checks its pyramid. Lent to read: bytes, the record, of any length. Lent to
+ * write: rows, (n+1)N or more; lambda, N or more; delta, N or more; table, (n+1)N or more. ZG_MOST_ENTRIES,
+ * ZG_MOST_DARTS, ZG_MOST_DARTS and ZG_MOST_ENTRIES entries are enough for every record.
+ * Accepted: n, h, darts, and at the front the record's rows, Lambda and Delta, and in table the explicit level h; the
+ * rest of a longer slice is untouched.
  * Refused 16, 17, 18 as the fields come (dart is the byte offset where the field starts), 1, 2, 3 after the header, 19
- * (dart is the offset of the first byte too many), 4.
+ * (dart is the offset of the first byte too many), 4, all with nothing written; then 5, 6, 7, 8, 9, 10 as zg_check,
+ * with the record's rows, Lambda and Delta at the front, and the front of table as zg_check leaves it.
  */
 zg_record zg_take(const uint8_t *bytes, size_t bytes_len, uint16_t *rows, size_t rows_len,
-                  uint8_t *lambda, size_t lambda_len, uint8_t *delta, size_t delta_len);
+                  uint8_t *lambda, size_t lambda_len, uint8_t *delta, size_t delta_len,
+                  uint16_t *table, size_t table_len);
 
 /*
  * Writes the record of an accepted pyramid, always with two bytes an entry. Lent to read: rows, (n+1)N; lambda, N;

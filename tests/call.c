@@ -18,9 +18,9 @@ const char *const job_names[JOBS] = {
 };
 const char *const case_forms[JOBS] = {
     "nDR", "nDhRLET", "nDhRLEMT", "nDhLElM", "nDhRLElid", "nDhRLElid", "nDhRLElT", "nDhRTli", "DhLlW", "nDTiM",
-    "BRLE", "nDhRLETB", "nDhRLETl", "B",
+    "BRLET", "nDhRLETB", "nDhRLETl", "B",
 };
-const char *const answer_forms[JOBS] = {"", "T", "LET", "M", "", "", "T", "", "W", "M", "RLE", "TB", "FT", ""};
+const char *const answer_forms[JOBS] = {"", "T", "LET", "M", "", "", "T", "", "W", "M", "RLET", "TB", "FT", ""};
 
 enum place call_place = BETWEEN_CANARIES;
 void (*call_failed)(void);
@@ -247,7 +247,9 @@ static void call_take(struct call *c)
     const uint8_t *bytes = bytes_in(c);
     uint16_t *rows = rows_out(c);
     uint8_t *lambda = lambda_out(c), *delta = delta_out(c);
-    zg_record r = zg_take(bytes, c->bytes_len, rows, c->rows_len, lambda, c->lambda_len, delta, c->delta_len);
+    uint16_t *table = table_out(c);
+    zg_record r = zg_take(bytes, c->bytes_len, rows, c->rows_len, lambda, c->lambda_len, delta, c->delta_len, table,
+                          c->table_len);
     take_refusal(c, r.refusal);
     take_found(c, 3, r.n, r.h, r.darts);
 }
@@ -305,14 +307,14 @@ static bool say_level(struct call *levels, struct call *step, unsigned level)
     return true;
 }
 
-/* What the program levels does with a record: take, check, then unfold each level. */
+/* What the program levels does with a record: take, then unfold each level. */
 static void call_levels(struct call *c)
 {
     static uint16_t rows[ZG_MOST_ENTRIES], table[ZG_MOST_ENTRIES];
     static uint8_t lambda[ZG_MOST_DARTS], delta[ZG_MOST_DARTS];
     struct call step = {.job = TAKE, .bytes = c->bytes, .bytes_len = c->bytes_len, .rows = rows, .table = table,
                         .lambda = lambda, .delta = delta, .rows_len = ZG_MOST_ENTRIES,
-                        .lambda_len = ZG_MOST_DARTS, .delta_len = ZG_MOST_DARTS};
+                        .table_len = ZG_MOST_ENTRIES, .lambda_len = ZG_MOST_DARTS, .delta_len = ZG_MOST_DARTS};
     call_job(&step);
     if (say_refusal(c, &step))
         return;
@@ -321,10 +323,6 @@ static void call_levels(struct call *c)
     step.darts = step.found[2];
     step.rows_len = step.table_len = (size_t)(step.n + 1) * step.darts;
     step.lambda_len = step.delta_len = step.darts;
-    step.job = CHECK;
-    call_job(&step);
-    if (say_refusal(c, &step))
-        return;
     sprintf(c->text, "%u %u %u", step.n, step.darts, step.h);
     for (unsigned level = 0; level <= step.h; level++)
         if (!say_level(c, &step, level))

@@ -187,7 +187,7 @@ inline void answer_or_throw(Case& c, Answer& a)
     case SURVIVORS: found(a, by::survivors(c.darts, c.h, c.lambda, c.level, c.words)); break;
     case MARK: by::mark(c.n, c.darts, c.table, c.involution, c.marks); break;
     case TAKE: {
-        const auto r = by::take(c.bytes, c.rows, c.lambda, c.delta);
+        const auto r = by::take(c.bytes, c.rows, c.lambda, c.delta, c.table);
         found(a, r.n, r.h, r.darts);
         break;
     }

@@ -645,13 +645,24 @@ inline Record parse(const Bytes& bytes)
     return r;
 }
 
-inline Record take(const Bytes& bytes, Entries& rows, Bytes& lambda, Bytes& delta)
+// After 5 to 10 the rows and marks hold the record, and the front of the table what the check leaves.
+inline Record take(const Bytes& bytes, Entries& rows, Bytes& lambda, Bytes& delta, Entries& table)
 {
     const Record r = parse(bytes);
-    demand(rows.size() >= r.rows.size() && lambda.size() >= r.darts && delta.size() >= r.darts, 4);
+    demand(rows.size() >= r.rows.size() && lambda.size() >= r.darts && delta.size() >= r.darts &&
+               table.size() >= r.rows.size(),
+           4);
     std::copy(r.rows.begin(), r.rows.end(), rows.begin());
     std::copy(r.lambda.begin(), r.lambda.end(), lambda.begin());
     std::copy(r.delta.begin(), r.delta.end(), delta.begin());
+    Entries front(table.begin(), table.begin() + std::ptrdiff_t(r.rows.size()));
+    try {
+        check(r.n, r.darts, r.h, r.rows, r.lambda, r.delta, front);
+    } catch (const Refusal&) {
+        std::copy(front.begin(), front.end(), table.begin());
+        throw;
+    }
+    std::copy(front.begin(), front.end(), table.begin());
     return r;
 }
 

@@ -26,7 +26,7 @@ for r in records:
         starts.append(at)
         at += 3 + r[at + 1] + 256 * r[at + 2]
     for cut in range(len(r)):
-        lent = [7] * 40, [7] * 12, [7] * 12
+        lent = [7] * 40, [7] * 12, [7] * 12, [7] * 38
         if sys.argv[1] == "cases":
             print("take", lists(r[:cut]), *map(lists, lent))
         else:

@@ -454,8 +454,9 @@ inline void lend_record(Random& r, Case& c)
     c.rows = junk<Entries>(r, c.rows.size() + more);
     c.lambda = junk<Bytes>(r, c.lambda.size() + more);
     c.delta = junk<Bytes>(r, c.delta.size() + r.below(more + 1));
+    c.table = junk<Entries>(r, c.table.size() + r.below(more + 1));
     if (r.chance(20))
-        r.chance(50) ? change_length(r, c.rows) : change_length(r, r.chance(50) ? c.lambda : c.delta);
+        r.chance(50) ? change_length(r, r.chance(50) ? c.rows : c.table) : change_length(r, r.chance(50) ? c.lambda : c.delta);
 }
 
 // A buffer for the record, from none to one that is longer.

@@ -1,11 +1,10 @@
-//! Takes a record, checks it, unfolds a level and prints its rows: unfold RECORD LEVEL. A refusal is said in words.
+//! Takes a record, unfolds a level and prints its rows: unfold RECORD LEVEL. A refusal is said in words.
 use std::{env, fs, process::ExitCode};
 use zompelgors::{Level, PyramidBuf, Refusal, ABSENT};
 
 fn unfold(record: &[u8], level: Level) -> Result<(), Refusal> {
     let pyramid = PyramidBuf::from_record(record)?;
     let mut table = vec![0; pyramid.entries()];
-    pyramid.lend().check(&mut table)?;
     pyramid.lend().unfold(level, &mut table)?;
     for row in table.chunks(usize::from(pyramid.lend().darts)) {
         let entry = |&d: &u16| if d == ABSENT { -1 } else { i32::from(d) };

@@ -217,12 +217,14 @@ pub fn mark_cells(
     answer.accepted()
 }
 
-/// Takes a record to the front of lent slices; its values are not checked ([`Pyramid::check`] does that).
+/// Takes a record to the front of lent slices and checks its pyramid. Accepted, the front of the table holds the top level.
+/// After numbers 5 to 10 rows and marks hold what the record said, and the table what [`Pyramid::check`] leaves.
 pub fn take(
     bytes: &[u8],
     rows: &mut [u16],
     lambda: &mut [u8],
     delta: &mut [u8],
+    table: &mut [u16],
 ) -> Result<Header, Refusal> {
     // Safety: every pointer comes from a slice with its own length, and only exclusive ones are written through.
     let answer = unsafe {
@@ -235,6 +237,8 @@ pub fn take(
             lambda.len(),
             delta.as_mut_ptr(),
             delta.len(),
+            table.as_mut_ptr(),
+            table.len(),
         )
     };
     answer.accepted().map(|r| Header {

@@ -28,11 +28,11 @@ impl PyramidBuf {
         })
     }
 
-    /// A record's pyramid; its values are not checked ([`Pyramid::check`] does that).
+    /// A record's pyramid, which is checked.
     pub fn from_record(bytes: &[u8]) -> Result<PyramidBuf, Refusal> {
-        let mut rows = vec![0; MOST_ENTRIES];
+        let (mut rows, mut table) = (vec![0; MOST_ENTRIES], vec![0; MOST_ENTRIES]);
         let (mut lambda, mut delta) = (vec![0; MOST_DARTS], vec![0; MOST_DARTS]);
-        let header = take(bytes, &mut rows, &mut lambda, &mut delta)?;
+        let header = take(bytes, &mut rows, &mut lambda, &mut delta, &mut table)?;
         let darts = usize::from(header.darts);
         rows.truncate((usize::from(header.n.0) + 1) * darts);
         lambda.truncate(darts);

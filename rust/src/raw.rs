@@ -179,6 +179,8 @@ extern "C" {
         lambda_len: usize,
         delta: *mut u8,
         delta_len: usize,
+        table: *mut u16,
+        table_len: usize,
     ) -> ZgRecord;
 
     pub fn zg_write(

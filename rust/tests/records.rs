@@ -15,8 +15,8 @@ fn record(name: &str) -> Vec<u8> {
 
 #[test]
 fn star_taken() {
-    let (mut rows, mut lambda, mut delta) = ([9; 40], [9; 14], [9; 12]);
-    let header = take(&sample(), &mut rows, &mut lambda, &mut delta).unwrap();
+    let (mut rows, mut lambda, mut delta, mut table) = ([9; 40], [9; 14], [9; 12], [9; 38]);
+    let header = take(&sample(), &mut rows, &mut lambda, &mut delta, &mut table).unwrap();
     assert_eq!(
         header,
         Header {
@@ -26,6 +26,7 @@ fn star_taken() {
         }
     );
     assert_eq!((&rows[36..], &lambda[12..]), (&[9; 4][..], &[9; 2][..]));
+    assert_eq!(table[36..], [9; 2]);
     let pyramid = Pyramid {
         n: header.n,
         darts: header.darts,
@@ -34,10 +35,11 @@ fn star_taken() {
         lambda: &lambda[..12],
         delta: &delta,
     };
-    let mut table = [0; 36];
-    assert_eq!(pyramid.check(&mut table), Ok(()));
+    let mut level = [0; 36];
+    assert_eq!(pyramid.check(&mut level), Ok(()));
+    assert_eq!(table[..36], level);
     assert_eq!(
-        [0, 1, 2].map(|l| pyramid.unfold(Level(l), &mut table).map(|r| r.count)),
+        [0, 1, 2].map(|l| pyramid.unfold(Level(l), &mut level).map(|r| r.count)),
         [Ok(36), Ok(28), Ok(24)]
     );
 }
@@ -47,8 +49,9 @@ fn star_cut_short() {
     let whole = sample();
     let field_starts = [0, 7, 34, 61, 88, 103];
     for length in 0..whole.len() {
-        let (mut rows, mut lambda, mut delta) = ([9; 36], [9; 12], [9; 12]);
-        let refusal = take(&whole[..length], &mut rows, &mut lambda, &mut delta).unwrap_err();
+        let (mut rows, mut lambda, mut delta, mut table) = ([9; 36], [9; 12], [9; 12], [9; 36]);
+        let cut = &whole[..length];
+        let refusal = take(cut, &mut rows, &mut lambda, &mut delta, &mut table).unwrap_err();
         let field = *field_starts
             .iter()
             .rfind(|&&start| start <= length)
@@ -63,6 +66,7 @@ fn star_cut_short() {
             }
         );
         assert_eq!((rows, lambda, delta), ([9; 36], [9; 12], [9; 12]));
+        assert_eq!(table, [9; 36]);
     }
 }
 
@@ -70,7 +74,8 @@ fn star_cut_short() {
 fn star_with_a_byte_too_many() {
     let mut bytes = sample();
     bytes.push(0);
-    let refusal = take(&bytes, &mut [0; 36], &mut [0; 12], &mut [0; 12]).unwrap_err();
+    let table = &mut [0; 36];
+    let refusal = take(&bytes, &mut [0; 36], &mut [0; 12], &mut [0; 12], table).unwrap_err();
     assert_eq!(
         refusal.to_string(),
         "refused 19 0 0 118: bytes follow the end of the record"
@@ -79,11 +84,25 @@ fn star_with_a_byte_too_many() {
 
 #[test]
 fn lent_too_little() {
-    let refusal = take(&sample(), &mut [0; 36], &mut [], &mut [0; 12]).unwrap_err();
+    let (whole, table) = (sample(), &mut [0; 36]);
+    let no_marks = take(&whole, &mut [0; 36], &mut [], &mut [0; 12], table).unwrap_err();
+    let no_table = take(&whole, &mut [0; 36], &mut [0; 12], &mut [0; 12], &mut []).unwrap_err();
     assert_eq!(
-        refusal.to_string(),
+        no_marks.to_string(),
         "refused 4 0 0 0: a length is not the one due"
     );
+    assert_eq!(no_table, no_marks);
+}
+
+/// The star with dart 0 alone of its vertex in kernel 0: refused, and what the record said is there to look at.
+#[test]
+fn star_with_a_torn_vertex() {
+    let mut bytes = sample();
+    bytes[91] = 0;
+    let (mut rows, mut lambda, mut delta, mut table) = ([9; 36], [9; 12], [9; 12], [9; 36]);
+    let refusal = take(&bytes, &mut rows, &mut lambda, &mut delta, &mut table).unwrap_err();
+    assert_eq!((refusal.number, refusal.level), (9, 0));
+    assert_eq!((lambda[0], rows[0], table), (0, 6, rows));
 }
 
 #[test]

@@ -1,10 +1,13 @@
-// Takes a record from standard input, checks it, unfolds each level and prints: n, N, h; then for each level its number, survivors, total count, and since which level all its links stand.
+// Takes a record from standard input, unfolds each level and prints: n, N, h; then for each level its number, survivors, total count, and since which level all its links stand.
 // It keeps 156,160 bytes: the input (65,536), rows and a table (40,960 each), Λ and Δ (4,096 each) and survivor words (512). Assumes the contracts of read and write.
-use answers::Check;
 use answers::Dim;
 use answers::Level;
 use answers::Refusal;
 use reading::Unfolding;
+use records::Taken;
+ghost use mathlib.Core.Path.{_≡_};
+ghost use Prim.Native.Nat.{_≤_};
+ghost use lib.ListN.{length};
 
 fn three(a: u64, b: u64, c: u64) {
     io::print_decimal(1, a);
@@ -88,8 +91,8 @@ fn all_levels(
     }
 }
 
-// The pyramid that a record gave.
-fn print_checked(
+// n, N and h, then each level.
+fn print_pyramid(
     n: Dim,
     darts: u16,
     h: Level,
@@ -98,70 +101,34 @@ fn print_checked(
     delta: &[u8],
     table: &mut [u16],
 ) {
-    if let Check::Refused(r) = checking::check(n, darts, h, rows, lambda, delta, table) {
-        refuse(r);
-        return;
-    }
     three(n.0 as u64, darts as u64, h.0 as u64);
     io::write_all(1, b"\n");
     all_levels(n, darts, h, rows, lambda, delta, table);
 }
 
-// The parts of the arrays that a record filled; its sizes are in range, so that they lie in the arrays.
-fn print_parts(
-    n: Dim,
-    darts: u16,
-    h: Level,
-    rows: &[u16],
-    lambda: &[u8],
-    delta: &[u8],
-    table: &mut [u16],
-) {
-    let last = n.0;
-    let width = darts as usize;
-    let size = (last as usize + 1) * width;
-    if size <= rows.len() {
-        if size <= table.len() {
-            print_marked(
-                n,
-                darts,
-                h,
-                &rows[..size],
-                lambda,
-                delta,
-                &mut table[..size],
-            );
-        }
-    }
-}
-
-fn print_marked(
-    n: Dim,
-    darts: u16,
-    h: Level,
-    rows: &[u16],
-    lambda: &[u8],
-    delta: &[u8],
-    table: &mut [u16],
-) {
-    let width = darts as usize;
-    if width <= lambda.len() {
-        if width <= delta.len() {
-            print_checked(n, darts, h, rows, &lambda[..width], &delta[..width], table);
-        }
-    }
-}
-
+// The pyramid of a record that was taken: it stands at the front of the arrays, since its sizes are in range.
 fn print_taken(
     n: Dim,
     darts: u16,
     h: Level,
-    rows: &[u16; 20480],
-    lambda: &[u8; 4096],
-    delta: &[u8; 4096],
-    table: &mut [u16; 20480],
-) {
-    print_parts(n, darts, h, rows, lambda, delta, table);
+    rows: &[u16],
+    lambda: &[u8],
+    delta: &[u8],
+    table: &mut [u16],
+)
+    requires { ⌜ (n .0 ≤ 4) × (darts ≤ 4096) × (length (now rows) ≡ 20480) × (length (now lambda) ≡ 4096) × (length (now delta) ≡ 4096) × (length (now table) ≡ 20480) ⌝ }
+{
+    let width = darts as usize;
+    let size = (n.0 as usize + 1) * width;
+    print_pyramid(
+        n,
+        darts,
+        h,
+        &rows[..size],
+        &lambda[..width],
+        &delta[..width],
+        &mut table[..size],
+    );
 }
 
 fn main() {
@@ -171,16 +138,14 @@ fn main() {
     let mut delta = [0u8; 4096];
     let mut table = [0u16; 20480];
     let length = io::read_full(0, &mut input);
-    match records::take(&input[..length], &mut rows, &mut lambda, &mut delta) {
-        records::Taken::Refused(r) => refuse(r),
-        records::Taken::Record(n, h, darts) => print_taken(
-            n,
-            darts,
-            h,
-            &rows,
-            &lambda,
-            &delta,
-            &mut table,
-        ),
+    match taking::take(
+        &input[..length],
+        &mut rows,
+        &mut lambda,
+        &mut delta,
+        &mut table,
+    ) {
+        Taken::Refused(r) => refuse(r),
+        Taken::Record(n, h, darts) => print_taken(n, darts, h, &rows, &lambda, &delta, &mut table),
     }
 }

@@ -1,10 +1,11 @@
--- The small maps P1 to P10, and small maps with contraction, by computation on the definitions. Assumes nothing.
+-- The small maps P1 to P10, small maps with contraction and a small record, by computation on the definitions. Assumes nothing.
 use mathlib.Core.Path.{_≡_, refl}
 use mathlib.Core.Bool.{true, false}
 use mathlib.Core.List.{List, [], _∷_}
 use Prim.Native.Nat.{ℕ, zero, suc}
 use lib.Ieee.{Float, binary64, div, ofInt, round, ofBits}
 use Rattle.maps.specs.Verdict.{Verdict, accepted, refused, scan}
+use Rattle.maps.specs.Sizes.{number1, number2, number3, number4, sizes}
 use Rattle.maps.specs.Count.{count, sum}
 use Rattle.maps.specs.Mark.{isMark, between, hasBeyond, beyond, across}
 use Rattle.maps.specs.Removal.{goOn, removal}
@@ -18,6 +19,8 @@ use Rattle.maps.specs.Sizes.{number1, number2, number3, sizes, number4}
 use Rattle.maps.specs.CheckPyramid.{checkLent}
 use Rattle.maps.specs.Decimation.{decimationLent, decimationEmpty, decimationFactor}
 use Rattle.maps.specs.Check.{at5, at6, at7, check5, check6, check7, checkMap, at9, at10, check9, check10, checkKernel, at8, check8, kernelAt, checkKernels, checkPyramid}
+use Rattle.maps.specs.CheckPyramid.{leftBehind, checkLent, checkLeaves}
+use Rattle.maps.specs.Record.{field, formed, recordRows, recordLambda, recordDelta, recordLent, takeLent, takeRows, takeLambda, takeDelta, takeTable}
 
 -- a folded pyramid as it is lent: n, N, h, rows, Λ, Δ
 pub record Lent : Type 0 where
@@ -271,3 +274,23 @@ small-contractions = record {
   c8 = (refl, refl, refl);
   c9 = (refl, refl, refl, refl);
 }
+
+-- the record of the segment, half of its edge marked to be contracted
+abbrev pub halfEdge : List ℕ
+halfEdge = 0x01 ∷ 4 ∷ 0 ∷ 1 ∷ 1 ∷ 2 ∷ 0 ∷ 0x10 ∷ 4 ∷ 0 ∷ 1 ∷ 0 ∷ 0 ∷ 0 ∷ 0x11 ∷ 4 ∷ 0 ∷ 0 ∷ 0 ∷ 1 ∷ 0 ∷ 0x30 ∷ 2 ∷ 0 ∷ 0 ∷ 1 ∷ 0x31 ∷ 2 ∷ 0 ∷ 9 ∷ 1 ∷ []
+
+-- lent slices, each longer by one entry than the record needs
+abbrev sevens : ℕ → List ℕ
+sevens m = listed (λ _. 7) m
+
+-- taken into slices of sevens: refused 9, the record in the rows and marks, level 0 in the table
+pub record SmallRecord : Type 0 where
+  pub refuses : takeLent halfEdge (sevens 5) (sevens 3) (sevens 3) (sevens 5) ≡ refused 9 0 0 0
+  pub rows-left : takeRows halfEdge (sevens 5) (sevens 3) (sevens 3) (sevens 5) ≡ 1 ∷ 0 ∷ 0 ∷ 1 ∷ 7 ∷ []
+  pub lambda-left : takeLambda halfEdge (sevens 5) (sevens 3) (sevens 3) (sevens 5) ≡ 0 ∷ 1 ∷ 7 ∷ []
+  pub delta-left : takeDelta halfEdge (sevens 5) (sevens 3) (sevens 3) (sevens 5) ≡ 9 ∷ 1 ∷ 7 ∷ []
+  pub table-left : takeTable halfEdge (sevens 5) (sevens 3) (sevens 3) (sevens 5) ≡ 1 ∷ 0 ∷ 0 ∷ 1 ∷ 7 ∷ []
+
+pub small-record : SmallRecord
+unfolding isMark between hasBeyond beyond scan count sum goOn removal listed explicit level at5 at6 at7 check5 check6 check7 checkMap at9 at10 check9 check10 checkKernel at8 check8 kernelAt checkKernels checkPyramid number1 number2 number3 number4 sizes leftBehind checkLent checkLeaves field formed recordRows recordLambda recordDelta recordLent takeLent takeRows takeLambda takeDelta takeTable
+small-record = record { refuses = refl; rows-left = refl; lambda-left = refl; delta-left = refl; table-left = refl }

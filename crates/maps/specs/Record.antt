@@ -1,12 +1,13 @@
--- Take a record: tagged fields, in their order, into lent tables. Assumes nothing: these are definitions.
+-- Take a record: tagged fields, in their order, into lent tables, and the check of its pyramid. Assumes nothing: these are definitions.
 use mathlib.Core.Bool.{Bool, cond, _&&_, not}
-use mathlib.Core.List.{List}
+use mathlib.Core.List.{List, _++_}
 use Prim.Native.Nat.{ℕ, suc, _+_, _*_, _/_, _%_}
-use lib.ListN.{length, getD}
+use lib.ListN.{length, getD, take, drop}
 use lib.Dec.{eqb, leb, ltb}
 use Rattle.maps.specs.Verdict.{Verdict, refused, when, ifAccepted, _then_, scan}
 use Rattle.maps.specs.Sizes.{sizes, number4}
 use Rattle.maps.specs.Table.{listed}
+use Rattle.maps.specs.CheckPyramid.{checkLent, checkLeaves}
 
 module _ (bytes : List ℕ) where
   -- Scope: 'Record'. The byte at an offset.
@@ -81,23 +82,45 @@ module _ (bytes : List ℕ) where
   abbrev pub recordEntry : ℕ → ℕ → ℕ
   recordEntry i d = cond oneByte (byte (rowAt i + 3 + d)) (twoBytes (rowAt i + 3 + 2 * d))
 
-  module _ (rows lambda delta : List ℕ) where
+  -- Scope: 'Record'. Rows 0 to n, one after the other.
+  unfoldable pub recordRows : List ℕ
+  recordRows = listed (λ x. recordEntry (x / recordDarts) (x % recordDarts)) (suc recordDimension * recordDarts)
+
+  -- Scope: 'Record'. Λ.
+  unfoldable pub recordLambda : List ℕ
+  recordLambda = listed (λ d. byte (lambdaAt + 3 + d)) recordDarts
+
+  -- Scope: 'Record'. Δ.
+  unfoldable pub recordDelta : List ℕ
+  recordDelta = listed (λ d. byte (deltaAt + 3 + d)) recordDarts
+
+  module _ (rows lambda delta table : List ℕ) where
     -- Scope: 'Take a record'. A record that is formed, then 4: each slice is long enough.
+    unfoldable pub recordLent : Verdict
+    recordLent =
+        formed
+        then number4 (leb (suc recordDimension * recordDarts) (length rows) && (leb recordDarts (length lambda) && (leb recordDarts (length delta) && leb (suc recordDimension * recordDarts) (length table))))
+
+    -- Scope: 'Take a record'. The part of the table that the check is lent.
+    abbrev pub recordTable : List ℕ
+    recordTable = take (suc recordDimension * recordDarts) table
+
+    -- Scope: 'Take a record'. Then the check of what the record holds, of which 1 to 4 have passed: 5 to 10.
     unfoldable pub takeLent : Verdict
-    takeLent = formed then number4 (leb (suc recordDimension * recordDarts) (length rows) && (leb recordDarts (length lambda) && leb recordDarts (length delta)))
+    takeLent = recordLent then checkLent recordDimension recordDarts recordHeight recordRows recordLambda recordDelta recordTable
 
-    -- Scope: 'Take a record'. The first m entries written, the rest of a longer slice untouched.
-    abbrev pub front : (ℕ → ℕ) → ℕ → List ℕ → List ℕ
-    front value m slice = listed (λ x. cond (ltb x m) (value x) (getD slice x 0)) (length slice)
-
-    -- Scope: 'Take a record'. What is left in the rows; refused, as found.
+    -- Scope: 'Take a record'. What is left in the rows: what the record said, also after 5 to 10, the rest of a longer slice untouched; after another number all as found.
     unfoldable pub takeRows : List ℕ
-    takeRows = ifAccepted takeLent (front (λ x. recordEntry (x / recordDarts) (x % recordDarts)) (suc recordDimension * recordDarts) rows) rows
+    takeRows = ifAccepted recordLent (recordRows ++ drop (suc recordDimension * recordDarts) rows) rows
 
     -- Scope: 'Take a record'. The same of Λ.
     unfoldable pub takeLambda : List ℕ
-    takeLambda = ifAccepted takeLent (front (λ d. byte (lambdaAt + 3 + d)) recordDarts lambda) lambda
+    takeLambda = ifAccepted recordLent (recordLambda ++ drop recordDarts lambda) lambda
 
     -- Scope: 'Take a record'. The same of Δ.
     unfoldable pub takeDelta : List ℕ
-    takeDelta = ifAccepted takeLent (front (λ d. byte (deltaAt + 3 + d)) recordDarts delta) delta
+    takeDelta = ifAccepted recordLent (recordDelta ++ drop recordDarts delta) delta
+
+    -- Scope: 'Take a record'. What is left in the table: what the check leaves in its part, the rest untouched.
+    unfoldable pub takeTable : List ℕ
+    takeTable = ifAccepted recordLent (checkLeaves recordDimension recordDarts recordHeight recordRows recordLambda recordDelta recordTable ++ drop (suc recordDimension * recordDarts) table) table

@@ -16,7 +16,7 @@ use Rattle.zompelgors.proofs.zg_mark_cells.Reads as mark-cells
 use Rattle.zompelgors.proofs.zg_take.Reads as take
 use Rattle.zompelgors.proofs.zg_write.Reads as write
 use Rattle.zompelgors.proofs.zg_decimation.Reads as decimation
-use Rattle.outcomes.proofs.One.{OneOutcome, one-outcome, nothing, three, same-three, pair, same-pair}
+use Rattle.outcomes.proofs.One.{OneOutcome, one-outcome, nothing, three, same-three, four, same-four, pair, same-pair}
 use Rattle.outcomes.proofs.Cells.{marking-same}
 
 pub zg-version-one : (κs : Lfts 0) → OneOutcome (version.Learnt κs) (λ r. r) nothing
@@ -58,9 +58,9 @@ zg-survivors-one κs = one-outcome _ _ _ (λ a r. r) (λ r. r) (λ a r. refl) _ 
 pub zg-mark-cells-one : (κs : Lfts 2) → OneOutcome (mark-cells.Learnt κs) (λ r. r) (λ s. now (s .1 .1 .1 .1 .0))
 zg-mark-cells-one κs a r r′ s s′ c c′ = (c .0 ∙ sym (c′ .0), marking-same (a .0) (a .1 .0) (now (a .1 .1 .0)) (a .1 .1 .1 .0) (now (a .1 .1 .1 .1 .0)) _ _ (c .1) (c′ .1))
 
--- rows, Λ and Δ
-pub zg-take-one : (κs : Lfts 4) → OneOutcome (take.Learnt κs) (λ r. r) (λ s. three (now (s .1 .0)) (now (s .1 .1 .0)) (now (s .1 .1 .1 .0)))
-zg-take-one κs = one-outcome _ _ _ (λ a r. r) (λ r. r) (λ a r. refl) _ _ (λ a r s c. (c .0, same-three (c .1 .0) (c .1 .1 .0) (c .1 .1 .1)))
+-- rows, Λ, Δ and the table
+pub zg-take-one : (κs : Lfts 5) → OneOutcome (take.Learnt κs) (λ r. r) (λ s. four (now (s .1 .0)) (now (s .1 .1 .0)) (now (s .1 .1 .1 .0)) (now (s .1 .1 .1 .1 .0)))
+zg-take-one κs = one-outcome _ _ _ (λ a r. r) (λ r. r) (λ a r. refl) _ _ (λ a r s c. (c .0, same-four (c .1 .0) (c .1 .1 .0) (c .1 .1 .1 .0) (c .1 .1 .1 .1)))
 
 -- the table and the buffer
 pub zg-write-one : (κs : Lfts 5) → OneOutcome (write.Learnt κs) (λ r. r) (λ s. pair (now (s .1 .1 .1 .1 .1 .1 .0)) (now (s .1 .1 .1 .1 .1 .1 .1 .0)))

@@ -32,10 +32,11 @@ use Rattle.reading.proofs.read.Reads as read
 use Rattle.reading.proofs.unfold.Reads as unfold-level
 use Rattle.levelwise.proofs.read_by_levels.Reads as by-levels
 use Rattle.cells.proofs.mark_cells.Reads as mark-cells
-use Rattle.records.proofs.take.Reads as take
+use Rattle.records.proofs.unpack.Reads as unpack
+use Rattle.taking.proofs.take.Reads as take
 use Rattle.writing.proofs.write.Reads as write
 use Rattle.shrinking.proofs.decimation.Reads as decimation
-use Rattle.outcomes.proofs.One.{OneOutcome, one-outcome, nothing, three, same-three, pair, same-pair}
+use Rattle.outcomes.proofs.One.{OneOutcome, one-outcome, nothing, three, same-three, four, same-four, pair, same-pair}
 use Rattle.outcomes.proofs.Answers.{checkFrom, check-told, readingFrom, reading-told, valuesOfLink, linkFrom, link-told, valuesOfTotal, totalFrom, total-told, valuesOfSurvivors, survivorsFrom, survivors-told, valuesOfAdded, addedFrom, added-told, takenFrom, taken-told, writtenFrom, written-told, factorFrom, factor-told, numbersFrom, numbers-told}
 use Rattle.outcomes.proofs.Cells.{marking-same}
 
@@ -89,10 +90,16 @@ mark-cells-one κs a r r′ s s′ c c′ =
     (sym (check-told r) ∙ ap checkFrom (c .0 ∙ sym (c′ .0)) ∙ check-told r′, marking-same (a .0 .0) (a .1 .0) (now (a .1 .1 .0)) (a .1 .1 .1 .0 .0) (now (a .1 .1 .1 .1 .0)) _ _ (c .1) (c′ .1))
 
 -- rows, Λ and Δ
-pub take-one : (κs : Lfts 4) → OneOutcome (take.Learnt κs) (λ r. r) (λ s. three (now (s .1 .0)) (now (s .1 .1 .0)) (now (s .1 .1 .1 .0)))
-take-one κs =
+pub unpack-one : (κs : Lfts 5) → OneOutcome (unpack.Learnt κs) (λ r. r) (λ s. three (now (s .1 .0)) (now (s .1 .1 .0)) (now (s .1 .1 .1 .0)))
+unpack-one κs =
     one-outcome _ _ _ (λ a. takenOf) takenFrom (λ a. taken-told) _ _ (λ a r s c.
     (c .0, same-three (c .1 .0) (c .1 .1 .0) (c .1 .1 .1)))
+
+-- rows, Λ, Δ and the table
+pub take-one : (κs : Lfts 5) → OneOutcome (take.Learnt κs) (λ r. r) (λ s. four (now (s .1 .0)) (now (s .1 .1 .0)) (now (s .1 .1 .1 .0)) (now (s .1 .1 .1 .1 .0)))
+take-one κs =
+    one-outcome _ _ _ (λ a. takenOf) takenFrom (λ a. taken-told) _ _ (λ a r s c.
+    (c .0, same-four (c .1 .0) (c .1 .1 .0) (c .1 .1 .1 .0) (c .1 .1 .1 .1)))
 
 -- the table and the buffer
 pub write-one : (κs : Lfts 5) → OneOutcome (write.Learnt κs) (λ r. r) (λ s. pair (now (s .1 .1 .1 .1 .1 .1 .0)) (now (s .1 .1 .1 .1 .1 .1 .1 .0)))

@@ -24,6 +24,13 @@ three x y z = (x, y, z)
 pub same-three : {x x′ y y′ z z′ : List ℕ} → x ≡ x′ → y ≡ y′ → z ≡ z′ → three x y z ≡ three x′ y′ z′
 same-three p q t = λ i. three (p i) (q i) (t i)
 
+-- four slices that are written
+abbrev pub four : List ℕ → List ℕ → List ℕ → List ℕ → List ℕ × List ℕ × List ℕ × List ℕ
+four x y z w = (x, y, z, w)
+
+pub same-four : {x x′ y y′ z z′ w w′ : List ℕ} → x ≡ x′ → y ≡ y′ → z ≡ z′ → w ≡ w′ → four x y z w ≡ four x′ y′ z′ w′
+same-four p q t u = λ i. four (p i) (q i) (t i) (u i)
+
 -- two slices that are written
 abbrev pub pair : List ℕ → List ℕ → List ℕ × List ℕ
 pair x y = (x, y)

@@ -1,26 +1,26 @@
--- A record of two bytes an entry, taken and written, is the same bytes. Assumes nothing.
+-- A record of two bytes an entry, unpacked and written, is the same bytes. Assumes nothing.
 use mathlib.Core.Path.{_≡_, refl, sym, ap, ap₂, _∙_}
-use mathlib.Core.Bool.{Bool, true, false, cond, _&&_, not}
+use mathlib.Core.Bool.{Bool, true, false, _&&_, not}
 use mathlib.Core.List.{List, [], _∷_, _++_}
-use Prim.Native.Nat.{ℕ, zero, suc, _+_, _-_, _*_, _/_, _%_, _≤_, _<_}
+use Prim.Native.Nat.{ℕ, zero, suc, _+_, _*_, _/_, _%_, _≤_, _<_}
 use native.Mathlib.Nat.{mul-le-mul-right, suc-mul, zero-mul}
 use native.Mathlib.Omega.{arith}
 use lib.ListN.{length, getD, take, drop, length-take, length-drop}
 use lib.Seq.{take-add, take-all, drop-drop, drop-cons, getD-take, getD-drop, ext-getD}
 use lib.Arith.{digits-div, digits-mod}
 use lib.Dec.{eqb, leb, ltb}
-use borrow.Author.Tests.{eqb-true, eqb-false, ltb-false, lt-ltb, not-false}
-use Rattle.maps.specs.Verdict.{Verdict, accepted, refused, when, _then_, scan}
+use borrow.Author.Tests.{eqb-true, eqb-false, ltb-false, not-false}
+use Rattle.maps.specs.Verdict.{accepted, refused, when, _then_, scan}
 use Rattle.maps.specs.Sizes.{sizes, number4}
 use Rattle.maps.specs.Table.{listed}
-use Rattle.maps.specs.Record.{byte, twoBytes, field, recordDimension, recordHeight, recordDarts, oneByte, lambdaAt, deltaAt, recordEntry, takeLent, takeRows, takeLambda, takeDelta}
+use Rattle.maps.specs.Record.{byte, twoBytes, field, recordDimension, recordHeight, recordDarts, oneByte, lambdaAt, deltaAt, recordEntry, recordRows, recordLambda, recordDelta, recordLent}
 use Rattle.maps.specs.Write.{fieldWritten, inTwoBytes, rowOf, rowsWritten, written}
 use Rattle.laws.proofs.Verdicts.{then-accepted, when-accepted, scan-accepted}
 use Rattle.laws.proofs.Tables.{length-listed, getD-listed, listed-of, in-table}
 use Rattle.laws.proofs.Sizes.{Sized, sizes-sized}
 use Rattle.records.specs.Parts.{rowFrom, marksAt, rowField, roomOf, restOf, entryFrom, Below}
 use Rattle.records.proofs.Fields.{length-two, low-two, high-two}
-use Rattle.records.proofs.Whole.{field-room, Told, lent-is, room-for}
+use Rattle.records.proofs.Whole.{field-room, Told, lent-is}
 
 -- m bytes from an offset on
 abbrev part : List ℕ → ℕ → ℕ → List ℕ
@@ -97,27 +97,8 @@ module _ (bytes : List ℕ) (small : Below 256 bytes) where
       let t = small (at + 2 * d + 1) in
       (omega arith, omega arith))
 
--- the first m places of what is laid at the front
-take-front : (value : ℕ → ℕ) (m : ℕ) (slice : List ℕ) → m ≤ length slice → take m (listed (λ x. cond (ltb x m) (value x) (getD slice x 0)) (length slice)) ≡ listed value m
-take-front value m slice l =
-    let f : ℕ → ℕ = λ x. cond (ltb x m) (value x) (getD slice x 0) in
-    let e = length-listed f (length slice) in
-    listed-of value m (take m (listed f (length slice))) (simp length-take (omega arith)) (λ x k.
-    getD-take m (listed f (length slice)) x 0 k ∙ getD-listed f (length slice) x 0 (omega arith) ∙ rw (lt-ltb x m k))
-
--- what is taken of a record: the first entries and marks of the lent slices
-module _ (bytes rows lambda delta : List ℕ) where
-  abbrev pub takenRows : List ℕ
-  takenRows = take (suc (recordDimension bytes) * recordDarts bytes) (takeRows bytes rows lambda delta)
-
-  abbrev pub takenLambda : List ℕ
-  takenLambda = take (recordDarts bytes) (takeLambda bytes rows lambda delta)
-
-  abbrev pub takenDelta : List ℕ
-  takenDelta = take (recordDarts bytes) (takeDelta bytes rows lambda delta)
-
--- a record of two bytes an entry that is taken into lent slices
-module _ (bytes rows lambda delta : List ℕ) (small : Below 256 bytes) (two : oneByte bytes ≡ false) (e : takeLent bytes rows lambda delta ≡ accepted) where
+-- a record of two bytes an entry that is unpacked into lent slices
+module _ (bytes rows lambda delta table : List ℕ) (small : Below 256 bytes) (two : oneByte bytes ≡ false) (e : recordLent bytes rows lambda delta table ≡ accepted) where
   abbrev n : ℕ
   n = recordDimension bytes
 
@@ -128,9 +109,9 @@ module _ (bytes rows lambda delta : List ℕ) (small : Below 256 bytes) (two : o
   N = recordDarts bytes
 
   abbrev enough : Bool
-  enough = leb (suc n * N) (length rows) && (leb N (length lambda) && leb N (length delta))
+  enough = leb (suc n * N) (length rows) && (leb N (length lambda) && (leb N (length delta) && leb (suc n * N) (length table)))
 
-  told : Told bytes rows lambda delta n h N false enough
+  told : Told bytes rows lambda delta table n h N false enough
   told = record { dimension = refl; height = refl; darts = refl; kind = sym two; fit = refl }
 
   parts : (field bytes 0 0x01 4 then sizes n N h ≡ accepted) × (restOf bytes n N false enough ≡ accepted)
@@ -169,38 +150,32 @@ module _ (bytes rows lambda delta : List ℕ) (small : Below 256 bytes) (two : o
       }
 
   abbrev R : List ℕ
-  R = takenRows bytes rows lambda delta
+  R = recordRows bytes
 
   abbrev L : List ℕ
-  L = takenLambda bytes rows lambda delta
+  L = recordLambda bytes
 
   abbrev D : List ℕ
-  D = takenDelta bytes rows lambda delta
+  D = recordDelta bytes
 
   rows-are : R ≡ listed (λ x. recordEntry bytes (x / N) (x % N)) (suc n * N)
-  unfolding takeRows
-  rows-are = let room = room-for told (parts .0) (parts .1) in rw e (take-front _ (suc n * N) rows (room .4))
+  unfolding recordRows
+  rows-are = refl
 
-  -- marks that are taken from an offset on
-  marks-are : (at from : ℕ) (slice : List ℕ) → at ≡ from → from + N ≤ length bytes → N ≤ length slice → take N (listed (λ x. cond (ltb x N) (byte bytes (at + x)) (getD slice x 0)) (length slice)) ≡ part bytes from N
-  marks-are at from slice same room l =
-      take-front (λ x. byte bytes (at + x)) N slice l
-      ∙ sym (listed-of (λ x. byte bytes (at + x)) N (part bytes from N) (part-long bytes from N room) (λ x k. part-at bytes from N x k ∙ ap (λ (y : ℕ). byte bytes (y + x)) (sym same)))
+  -- marks from an offset on
+  marks-are : (at from : ℕ) → at ≡ from → from + N ≤ length bytes → listed (λ x. byte bytes (at + x)) N ≡ part bytes from N
+  marks-are at from same room = sym (listed-of (λ x. byte bytes (at + x)) N (part bytes from N) (part-long bytes from N room) (λ x k. part-at bytes from N x k ∙ ap (λ (y : ℕ). byte bytes (y + x)) (sym same)))
 
   starts : lambdaAt bytes ≡ lambdaFrom
   starts = ap (λ (one : Bool). marksAt n N one) two
 
   lambda-is : L ≡ part bytes (lambdaFrom + 3) N
-  unfolding takeLambda
-  lambda-is =
-      let room = room-for told (parts .0) (parts .1) in
-      rw e (marks-are (lambdaAt bytes + 3) (lambdaFrom + 3) lambda (ap (λ (x : ℕ). x + 3) starts) (omega (arith, tested .ends)) (room .5))
+  unfolding recordLambda
+  lambda-is = marks-are (lambdaAt bytes + 3) (lambdaFrom + 3) (ap (λ (x : ℕ). x + 3) starts) (omega (arith, tested .ends))
 
   delta-is : D ≡ part bytes (lambdaFrom + (3 + N) + 3) N
-  unfolding takeDelta
-  delta-is =
-      let room = room-for told (parts .0) (parts .1) in
-      rw e (marks-are (deltaAt bytes + 3) (lambdaFrom + (3 + N) + 3) delta (ap (λ (x : ℕ). x + (3 + N) + 3) starts) (omega (arith, tested .ends)) (room .6))
+  unfolding recordDelta
+  delta-is = marks-are (deltaAt bytes + 3) (lambdaFrom + (3 + N) + 3) (ap (λ (x : ℕ). x + (3 + N) + 3) starts) (omega (arith, tested .ends))
 
   -- row i
   row-is : (i : ℕ) → i ≤ n → rowOf N R i ≡ listed (λ d. twoBytes bytes (7 + i * (3 + 2 * N) + 3 + 2 * d)) N
@@ -241,7 +216,7 @@ module _ (bytes rows lambda delta : List ℕ) (small : Below 256 bytes) (two : o
       field-again bytes small 0 0x01 4 (tested .header) ∙ ap (fieldWritten 0x01) (body ∙ ap₂ (λ (x y : ℕ). n ∷ h ∷ x ∷ y ∷ []) (omega arith) (omega arith))
 
   -- written again, it is the same bytes
-  pub again : written (recordDimension bytes) (recordHeight bytes) (recordDarts bytes) (takenRows bytes rows lambda delta) (takenLambda bytes rows lambda delta) (takenDelta bytes rows lambda delta) ≡ bytes
+  pub again : written (recordDimension bytes) (recordHeight bytes) (recordDarts bytes) (recordRows bytes) (recordLambda bytes) (recordDelta bytes) ≡ bytes
   unfolding written
   again =
       let rowsSize = suc n * (3 + 2 * N) in

@@ -1,16 +1,16 @@
 -- Laws of values written into a slice: none, one more, others after them, and values at the front. Assumes nothing.
 use mathlib.Core.Logic.{inl, inr, ⊎-elim}
 use mathlib.Core.Path.{_≡_, refl, sym, ap, _∙_}
-use mathlib.Core.Bool.{Bool, true, false, cond}
+use mathlib.Core.Bool.{Bool, true, false}
 use mathlib.Core.List.{List, _++_}
 use Prim.Native.Nat.{ℕ, _+_, _-_, _≤_, _<_}
 use native.Mathlib.Omega.{arith}
 use lib.ListN.{length, getD, set, drop, length-set, length-append, length-drop, List·getD-append}
-use lib.Seq.{getD-set-same, getD-set-other, getD-append-add, getD-drop}
+use lib.Seq.{getD-set-same, getD-set-other, getD-append-add, getD-drop, ext-getD}
 use lib.Dec.{eqb, ltb}
 use borrow.Author.Tests.{ltb-true, ltb-false, eqb-true, eqb-false}
 use Rattle.maps.specs.Table.{listed}
-use Rattle.laws.proofs.Tables.{listed-of}
+use Rattle.laws.proofs.Tables.{length-listed, getD-listed}
 use Rattle.records.specs.Parts.{Laid}
 
 pub laid-none : (value : ℕ → ℕ) (at : ℕ) (slice : List ℕ) → Laid value at 0 slice slice
@@ -53,27 +53,22 @@ laid-on {value} {part} {at} {m} {next} {k} {old} {mid} {new} total s t e all sam
         let y : m + (d - m) ≡ d = omega arith in
         rw z (t .written (d - m) (omega arith) ∙ same (d - m) (omega arith) ∙ ap value y)
 
--- at the front: what a longer slice has after that is untouched
-pub laid-front : {value : ℕ → ℕ} {m : ℕ} {old new : List ℕ} → Laid value 0 m old new → new ≡ listed (λ x. cond (ltb x m) (value x) (getD old x 0)) (length old)
-laid-front {value} {m} {old} {new} s = listed-of (λ x. cond (ltb x m) (value x) (getD old x 0)) (length old) new (s .long) (λ x l. at-place x (ltb x m) refl)
+-- at the front: a list of these values, and what a longer slice has after it
+pub laid-front : {value : ℕ → ℕ} {m : ℕ} {old new : List ℕ} (list : List ℕ) → length list ≡ m → ((x : ℕ) → x < m → getD list x 0 ≡ value x) → Laid value 0 m old new → m ≤ length old → new ≡ list ++ drop m old
+laid-front {value} {m} {old} {new} list long same s l =
+    ext-getD 0 new (list ++ drop m old) (s .long ∙ sym (simp (length-append, length-drop) (omega arith))) (λ x f. at-place x (ltb x m) refl)
   where
-    at-place : (x : ℕ) (b : Bool) → ltb x m ≡ b → getD new x 0 ≡ cond (ltb x m) (value x) (getD old x 0)
+    at-place : (x : ℕ) (b : Bool) → ltb x m ≡ b → getD new x 0 ≡ getD (list ++ drop m old) x 0
     at-place x true p =
-        let l = ltb-true x m p in
+        let k = ltb-true x m p in
         let z : x ≡ 0 + x = omega arith in
-        rw p (ap (λ (y : ℕ). getD new y 0) z ∙ s .written x l)
-    at-place x false p = let l = ltb-false x m p in rw p (s .kept x (inr (omega arith)))
-
--- a list at the front of a slice that is as long or longer
-pub laid-list : {value : ℕ → ℕ} {m : ℕ} {old : List ℕ} (list : List ℕ) → m ≤ length old → length list ≡ m → ((x : ℕ) → x < m → getD list x 0 ≡ value x) → Laid value 0 m old (list ++ drop m old)
-laid-list {value} {m} {old} list l f h = record {
-  long = simp (length-append, length-drop) (omega arith);
-  written = λ d k. let z : 0 + d ≡ d = omega arith in rw z (List·getD-append list (drop m old) 0 d (omega arith) ∙ h d k);
-  kept = λ x o. ⊎-elim (λ k. absurd (omega arith)) (λ k. after x (omega arith)) o;
-}
-  where
-    after : (x : ℕ) → m ≤ x → getD (list ++ drop m old) x 0 ≡ getD old x 0
-    after x k =
+        ap (λ (y : ℕ). getD new y 0) z ∙ s .written x k ∙ sym (List·getD-append list (drop m old) 0 x (omega arith) ∙ same x k)
+    at-place x false p =
+        let k = ltb-false x m p in
         let z : x ≡ length list + (x - m) = omega arith in
         let y : m + (x - m) ≡ x = omega arith in
-        ap (λ (p : ℕ). getD (list ++ drop m old) p 0) z ∙ getD-append-add list (drop m old) (x - m) 0 ∙ getD-drop m old (x - m) 0 ∙ ap (λ (p : ℕ). getD old p 0) y
+        s .kept x (inr (omega arith))
+        ∙ sym (ap (λ (q : ℕ). getD (list ++ drop m old) q 0) z ∙ getD-append-add list (drop m old) (x - m) 0 ∙ getD-drop m old (x - m) 0 ∙ ap (λ (q : ℕ). getD old q 0) y)
+
+pub laid-listed : {value : ℕ → ℕ} {m : ℕ} {old new : List ℕ} → Laid value 0 m old new → m ≤ length old → new ≡ listed value m ++ drop m old
+laid-listed {value} {m} s l = laid-front (listed value m) (length-listed value m) (λ x k. getD-listed value m x 0 k) s l

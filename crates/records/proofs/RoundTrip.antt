@@ -1,11 +1,11 @@
--- What taking a record gives back, of one that is written. Assumes nothing.
+-- What a record that is written holds. Assumes nothing.
 use mathlib.Core.Path.{_≡_, refl, sym, ap, _∙_}
 use mathlib.Core.Bool.{Bool, true, false, _&&_}
 use mathlib.Core.List.{List, [], _∷_, _++_, append-nil, append-assoc}
 use Prim.Native.Nat.{ℕ, zero, suc, _+_, _-_, _*_, _/_, _%_, _≤_, _<_}
-use native.Mathlib.Nat.{mul-le-mul-right, suc-mul, zero-mul}
+use native.Mathlib.Nat.{zero-mul}
 use native.Mathlib.Omega.{arith}
-use lib.ListN.{length, getD, take, drop, length-append, length-take, length-drop, List·getD-append, List·getD-eq-default}
+use lib.ListN.{length, getD, take, drop, length-append, length-take, List·getD-append, List·getD-eq-default}
 use lib.Seq.{getD-append-add, getD-take, getD-drop}
 use lib.Arith.{digits-div, digits-mod}
 use lib.Dec.{eqb, leb, ltb}
@@ -13,14 +13,13 @@ use borrow.Author.Tests.{eqb-true, eqb-false, ltb-true, ltb-false, le-leb, lt-le
 use Rattle.maps.specs.Verdict.{accepted, _then_}
 use Rattle.maps.specs.Sizes.{sizes, number1, number2, number3, number4}
 use Rattle.maps.specs.Write.{fieldWritten, inTwoBytes, rowOf, rowsWritten, written}
-use Rattle.maps.specs.Record.{field, recordDimension, recordHeight, recordDarts, takeLent, takeRows, takeLambda, takeDelta}
+use Rattle.maps.specs.Record.{field, recordDimension, recordHeight, recordDarts, recordRows, recordLambda, recordDelta, recordLent}
 use Rattle.laws.proofs.Verdicts.{scan-all}
 use Rattle.laws.proofs.Tables.{place}
 use Rattle.laws.proofs.Sizes.{Sized}
 use Rattle.records.specs.Parts.{rowField, roomOf, restOf, tableEntry, Below}
 use Rattle.records.proofs.Fields.{length-field, low-two, high-two, row-length, rows-written}
-use Rattle.records.proofs.Laid.{laid-list}
-use Rattle.records.proofs.Whole.{Told, lent-is, all-taken}
+use Rattle.records.proofs.Whole.{Told, lent-is, holds-rows, holds-lambda, holds-delta}
 
 below-append : (k : ℕ) (xs ys : List ℕ) → Below k xs → Below k ys → Below k (xs ++ ys)
 below-append k xs ys f g x = go (ltb x (length xs)) refl
@@ -229,16 +228,16 @@ module _ (n h N : ℕ) (rows lambda delta : List ℕ) (s : Sized n N h) (rows-le
       let seven : 7 ≡ 7 + 0 * (3 + 2 * N) = omega (arith, zero-mul (3 + 2 * N)) in
       ap (λ (x : ℕ). getD list x 0) seven ∙ field-tag (row-stands 0 (omega arith))
 
-  -- what taking it into lent slices of these lengths, or longer ones, gives
-  module _ (lentRows lentLambda lentDelta : List ℕ) (rows-lent : suc n * N ≤ length lentRows) (lambda-lent : N ≤ length lentLambda) (delta-lent : N ≤ length lentDelta) where
-    told : Told list lentRows lentLambda lentDelta n h N false true
+  -- what unpacking it gives, with lent slices of these lengths or longer ones
+  module _ (lentRows lentLambda lentDelta lentTable : List ℕ) (rows-lent : suc n * N ≤ length lentRows) (lambda-lent : N ≤ length lentLambda) (delta-lent : N ≤ length lentDelta) (table-lent : suc n * N ≤ length lentTable) where
+    told : Told list lentRows lentLambda lentDelta lentTable n h N false true
     unfolding written fieldWritten inTwoBytes
     told = record {
       dimension = refl;
       height = refl;
       darts = omega arith;
       kind = ap (λ (x : ℕ). eqb x 0x20 && leb N 256) (sym first-tag);
-      fit = rw (le-leb (suc n * N) (length lentRows) rows-lent, le-leb N (length lentLambda) lambda-lent, le-leb N (length lentDelta) delta-lent);
+      fit = rw (le-leb (suc n * N) (length lentRows) rows-lent, le-leb N (length lentLambda) lambda-lent, le-leb N (length lentDelta) delta-lent, le-leb (suc n * N) (length lentTable) table-lent);
     }
 
     rest-fine : restOf list n N false true ≡ accepted
@@ -251,28 +250,26 @@ module _ (n h N : ℕ) (rows lambda delta : List ℕ) (s : Sized n N h) (rows-le
           le-ltb (lambdaFrom + (3 + N) + (3 + N)) (length list) (omega (arith, written-length)),
         )
 
-    pub record TakenBack : Type 0 where
-      pub verdict : takeLent (written n h N rows lambda delta) lentRows lentLambda lentDelta ≡ accepted
+    pub record Held : Type 0 where
+      pub verdict : recordLent (written n h N rows lambda delta) lentRows lentLambda lentDelta lentTable ≡ accepted
       pub dimension : recordDimension (written n h N rows lambda delta) ≡ n
       pub height : recordHeight (written n h N rows lambda delta) ≡ h
       pub darts : recordDarts (written n h N rows lambda delta) ≡ N
-      pub rowsBack : takeRows (written n h N rows lambda delta) lentRows lentLambda lentDelta ≡ rows ++ drop (suc n * N) lentRows
-      pub lambdaBack : takeLambda (written n h N rows lambda delta) lentRows lentLambda lentDelta ≡ lambda ++ drop N lentLambda
-      pub deltaBack : takeDelta (written n h N rows lambda delta) lentRows lentLambda lentDelta ≡ delta ++ drop N lentDelta
+      pub rows-held : recordRows (written n h N rows lambda delta) ≡ rows
+      pub lambda-held : recordLambda (written n h N rows lambda delta) ≡ lambda
+      pub delta-held : recordDelta (written n h N rows lambda delta) ≡ delta
 
-    pub round-trip : TakenBack
+    pub round-trip : Held
     round-trip =
         let at-row : (x : ℕ) → x < suc n * N → getD rows x 0 ≡ tableEntry list N false x = λ x l. let p = place n N x l in rw (p .2) at (row-value (x / N) (x % N) (p .0) (p .1)) in
-        let r =
-        all-taken told header-fine rest-fine (laid-list rows rows-lent rows-length at-row) (laid-list lambda lambda-lent lambda-length (λ x l. sym (field-body lambda-stands x (omega arith)))) (laid-list delta delta-lent delta-length (λ x l. sym (field-body delta-stands x (omega arith)))) in
         record {
           verdict = lent-is told ∙ rw (header-fine, rest-fine);
           dimension = sym (told .dimension);
           height = sym (told .height);
           darts = sym (told .darts);
-          rowsBack = sym (r .1 .0);
-          lambdaBack = sym (r .1 .1 .0);
-          deltaBack = sym (r .1 .1 .1);
+          rows-held = sym (holds-rows told rows rows-length at-row);
+          lambda-held = sym (holds-lambda told lambda lambda-length (λ x l. sym (field-body lambda-stands x (omega arith))));
+          delta-held = sym (holds-delta told delta delta-length (λ x l. sym (field-body delta-stands x (omega arith))));
         }
 
 -- largest record: 49,180 bytes

@@ -2,7 +2,7 @@
 use mathlib.Core.List.{List}
 use Prim.Native.Nat.{ℕ}
 use Rattle.maps.specs.Verdict.{Verdict, accepted, ifAccepted}
-use Rattle.maps.specs.Record.{recordDimension, recordHeight, recordDarts, takeLent}
+use Rattle.maps.specs.Record.{recordDimension, recordHeight, recordDarts, recordLent}
 use Rattle.answers.specs.Numbers.{refusalOf}
 use Rattle.records.specs.declared.Taken.{Taken}
 use Rattle.records.specs.declared.Taken.the-variants.{Record, Refused}
@@ -23,6 +23,6 @@ abbrev pub takenOf : Taken → Outcome
 takenOf (Record n h darts) = saying accepted (n .0) (h .0) darts
 takenOf (Refused r) = saying (refusalOf r) 0 0 0
 
--- what taking a record answers
-abbrev pub taken : List ℕ → List ℕ → List ℕ → List ℕ → Outcome
-taken bytes rows lambda delta = saying (takeLent bytes rows lambda delta) (recordDimension bytes) (recordHeight bytes) (recordDarts bytes)
+-- what unpacking a record answers
+abbrev pub unpacked : List ℕ → List ℕ → List ℕ → List ℕ → List ℕ → Outcome
+unpacked bytes rows lambda delta table = saying (recordLent bytes rows lambda delta table) (recordDimension bytes) (recordHeight bytes) (recordDarts bytes)

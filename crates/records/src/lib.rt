@@ -1,4 +1,4 @@
-// Take a record: tagged fields, in their order, into lent tables. Assumes nothing: any bytes at all are answered.
+// Unpack a record: tagged fields, in their order, into lent tables. Its pyramid is not checked here. Assumes nothing: any bytes at all are answered.
 mod copying; // copying.rt: a field's body into a lent slice
 
 use answers::Check;
@@ -17,7 +17,7 @@ ghost use Rattle.maps.specs.Verdict.{_then_, scan};
 ghost use Rattle.maps.specs.Sizes.{sizes as sizesOf};
 ghost use Rattle.maps.specs.Record.{field as fieldOf, takeRows, takeLambda, takeDelta};
 ghost use Rattle.answers.specs.Numbers.{verdictOf};
-ghost use Rattle.records.specs.Answers.{takenOf, taken};
+ghost use Rattle.records.specs.Answers.{takenOf, unpacked};
 ghost use Rattle.records.specs.Kinds.{kindOf, tagOf, Due, Says};
 ghost use Rattle.records.specs.Parts.{sizeOf, marksAt, rowField, roomOf, restOf, byteFrom, entryFrom, tableEntry, Laid};
 
@@ -204,12 +204,14 @@ fn row_fields(bytes: &[u8], n: Dim, one: bool, size: u16) -> Check
 }
 
 // Are lent slices of these lengths long enough?
-fn long_enough(n: Dim, darts: u16, rows: usize, lambda: usize, delta: usize) -> bool
-    ensures { λ r. ⌜ r ≡ (leb (suc (n .0) * darts) rows && (leb darts lambda && leb darts delta)) ⌝ }
+fn long_enough(n: Dim, darts: u16, rows: usize, lambda: usize, delta: usize, table: usize) -> bool
+    ensures { λ r. ⌜ r ≡ (leb (suc (n .0) * darts) rows && (leb darts lambda && (leb darts delta && leb (suc (n .0) * darts) table))) ⌝ }
 {
     let due = darts as usize;
     let all = (n.0 as usize + 1) * due;
-    answers::both(all <= rows, answers::both(due <= lambda, due <= delta))
+    let marks = answers::both(due <= delta, all <= table);
+    let below = answers::both(due <= lambda, marks);
+    answers::both(all <= rows, below)
 }
 
 // Numbers 19 and 4: `length` bytes of which the record ends at `end`.
@@ -291,12 +293,18 @@ fn copy_all(
     copy_bytes(bytes, at + (3 + count) + 3, count, delta, 0);
 }
 
-// Take a record into lent tables: nothing lent is written before the whole record is known to be good.
-pub fn take(bytes: &[u8], rows: &mut [u16], lambda: &mut [u8], delta: &mut [u8]) -> Taken
-    ensures { λ r. ⌜ takenOf r ≡ taken (now (bytes .entry)) (now (rows .entry)) (now (lambda .entry)) (now (delta .entry)) ⌝ }
-    ensures { λ _. ⌜ now (rows .exit) ≡ takeRows (now (bytes .entry)) (now (rows .entry)) (now (lambda .entry)) (now (delta .entry)) ⌝ }
-    ensures { λ _. ⌜ now (lambda .exit) ≡ takeLambda (now (bytes .entry)) (now (rows .entry)) (now (lambda .entry)) (now (delta .entry)) ⌝ }
-    ensures { λ _. ⌜ now (delta .exit) ≡ takeDelta (now (bytes .entry)) (now (rows .entry)) (now (lambda .entry)) (now (delta .entry)) ⌝ }
+// Unpack a record into lent tables: nothing lent is written before the whole record is known to be good. Of the table that its check is lent, the length is tested.
+pub fn unpack(
+    bytes: &[u8],
+    rows: &mut [u16],
+    lambda: &mut [u8],
+    delta: &mut [u8],
+    table: &[u16],
+) -> Taken
+    ensures { λ r. ⌜ takenOf r ≡ unpacked (now (bytes .entry)) (now (rows .entry)) (now (lambda .entry)) (now (delta .entry)) (now (table .entry)) ⌝ }
+    ensures { λ _. ⌜ now (rows .exit) ≡ takeRows (now (bytes .entry)) (now (rows .entry)) (now (lambda .entry)) (now (delta .entry)) (now (table .entry)) ⌝ }
+    ensures { λ _. ⌜ now (lambda .exit) ≡ takeLambda (now (bytes .entry)) (now (rows .entry)) (now (lambda .entry)) (now (delta .entry)) (now (table .entry)) ⌝ }
+    ensures { λ _. ⌜ now (delta .exit) ≡ takeDelta (now (bytes .entry)) (now (rows .entry)) (now (lambda .entry)) (now (delta .entry)) (now (table .entry)) ⌝ }
 {
     let n = Dim(byte_at(bytes, 3));
     let h = Level(byte_at(bytes, 4));
@@ -305,7 +313,7 @@ pub fn take(bytes: &[u8], rows: &mut [u16], lambda: &mut [u8], delta: &mut [u8])
         return Taken::Refused(r);
     }
     let one = one_byte(bytes, darts);
-    let enough = long_enough(n, darts, rows.len(), lambda.len(), delta.len());
+    let enough = long_enough(n, darts, rows.len(), lambda.len(), delta.len(), table.len());
     if let Check::Refused(r) = rest(bytes, n, darts, one, enough) {
         return Taken::Refused(r);
     }

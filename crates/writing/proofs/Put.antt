@@ -1,17 +1,13 @@
 -- Laws of what is put into a slice: two bytes of an entry, a list after a list, a field, and all of it at the front. Assumes nothing.
-use mathlib.Core.Logic.{inr}
-use mathlib.Core.Path.{_≡_, refl, sym, ap, _∙_}
-use mathlib.Core.Bool.{Bool, true, false}
+use mathlib.Core.Path.{_≡_, refl, sym, _∙_}
 use mathlib.Core.List.{List, _++_}
-use Prim.Native.Nat.{ℕ, _+_, _-_, _*_, _/_, _%_, _≤_, _<_}
+use Prim.Native.Nat.{ℕ, _+_, _*_, _/_, _%_, _≤_, _<_}
 use native.Mathlib.Omega.{arith}
-use lib.ListN.{length, getD, set, drop, length-append, length-drop, length-set, List·getD-append}
-use lib.Seq.{getD-append-add, getD-drop, ext-getD}
-use lib.Dec.{ltb}
-use borrow.Author.Tests.{ltb-true, ltb-false}
-use Rattle.maps.specs.Write.{fieldWritten, inTwoBytes}
+use lib.ListN.{length, getD, set, drop, length-append, length-set, List·getD-append}
+use lib.Seq.{getD-append-add}
+use Rattle.maps.specs.Write.{fieldWritten}
 use Rattle.records.specs.Parts.{Laid}
-use Rattle.records.proofs.Laid.{laid-more, laid-on, laid-same}
+use Rattle.records.proofs.Laid.{laid-more, laid-on, laid-same, laid-front}
 use Rattle.records.proofs.Fields.{low-two, high-two}
 use Rattle.writing.specs.Put.{headOf, entryByte, Put}
 
@@ -43,19 +39,4 @@ put-field {tag} {size} {at} {next} {body} {old} {mid} {new} s t e f = let joined
 
 -- at the front: the list, and what a longer slice has after it
 pub put-front : {list old new : List ℕ} → Put list 0 old new → length list ≤ length old → new ≡ list ++ drop (length list) old
-put-front {list} {old} {new} s l =
-    ext-getD 0 new (list ++ drop (length list) old) (s .laid .long ∙ sym (simp (length-append, length-drop) (omega arith))) (λ x f. at-place x (ltb x (length list)) refl)
-  where
-    at-place : (x : ℕ) (b : Bool) → ltb x (length list) ≡ b → getD new x 0 ≡ getD (list ++ drop (length list) old) x 0
-    at-place x true p =
-        let k = ltb-true x (length list) p in
-        let z : x ≡ 0 + x = omega arith in
-        ap (λ (y : ℕ). getD new y 0) z ∙ s .laid .written x k ∙ sym (List·getD-append list (drop (length list) old) 0 x k)
-    at-place x false p =
-        let k = ltb-false x (length list) p in
-        let z : x ≡ length list + (x - length list) = omega arith in
-        s .laid .kept x (inr (omega arith))
-        ∙ ap (λ (y : ℕ). getD old y 0) z
-        ∙ sym (getD-drop (length list) old (x - length list) 0)
-        ∙ sym (getD-append-add list (drop (length list) old) (x - length list) 0)
-        ∙ ap (λ (y : ℕ). getD (list ++ drop (length list) old) y 0) (sym z)
+put-front {list} s l = laid-front list refl (λ x k. refl) (s .laid) l

@@ -17,7 +17,7 @@ ghost use Rattle.maps.specs.Unfold.{unfoldLent, unfoldTotal, unfoldSince, unfol
 ghost use Rattle.maps.specs.Row.{rowLent};
 ghost use Rattle.maps.specs.Survivors.{survivorsLent, survivorCount, survivorWords};
 ghost use Rattle.maps.specs.MarkCells.{markLent, MarkLeaves};
-ghost use Rattle.maps.specs.Record.{takeRows, takeLambda, takeDelta};
+ghost use Rattle.maps.specs.Record.{takeRows, takeLambda, takeDelta, takeTable};
 ghost use Rattle.maps.specs.Write.{writeTable, writeLeaves};
 ghost use Rattle.maps.specs.Decimation.{decimationTable};
 ghost use Rattle.answers.specs.Numbers.{refusalOf, verdictOf};
@@ -25,7 +25,8 @@ ghost use Rattle.checking.specs.Answers.{addedOf, heightOf};
 ghost use Rattle.questions.specs.Answers.{valueOf};
 ghost use Rattle.reading.specs.Answers.{valueOf as linkOf, standsSince, checkOf, totalOf, latestOf};
 ghost use Rattle.rows.specs.Answers.{verdictOfSurvivors, countOfSurvivors};
-ghost use Rattle.records.specs.Answers.{takenOf, taken};
+ghost use Rattle.records.specs.Answers.{takenOf};
+ghost use Rattle.taking.specs.Answers.{taken};
 ghost use Rattle.writing.specs.Answers.{writtenOf, writing};
 ghost use Rattle.shrinking.specs.Answers.{factorOf, decimating};
 ghost use Rattle.zompelgors.specs.Flat.{refusalFor, saidBy, readingFor, linkFor, countFor, unfoldingFor, heightFor, partFor, recordFor, writtenFor, factorFor, versionFor};
@@ -368,12 +369,12 @@ fn factor_as(answer: shrinking::Factor) -> ZgFactor
     }
 }
 
-// The version of this interface: 4.2.0.
+// The version of this interface: 5.0.0.
 #[no_mangle]
 pub extern "C" fn zg_version() -> u32
-    ensures { λ r. ⌜ r ≡ versionFor 4 2 0 ⌝ }
+    ensures { λ r. ⌜ r ≡ versionFor 5 0 0 ⌝ }
 {
-    262656
+    327680
 }
 
 // Checks a base.
@@ -583,20 +584,22 @@ pub extern "C" fn zg_mark_cells(
     checked(cells::mark_cells(Dim(n), darts, table, Dim(dimension), marks))
 }
 
-// Takes a record into lent memory.
+// Takes a record into lent memory and checks its pyramid; after 5 to 10 rows and marks hold what the record said.
 #[no_mangle]
 pub extern "C" fn zg_take(
     bytes: &[u8],
     rows: &mut [u16],
     lambda: &mut [u8],
     delta: &mut [u8],
+    table: &mut [u16],
 ) -> ZgRecord
-    ensures { λ r. ⌜ r ≡ recordFor (taken (now (bytes .entry)) (now (rows .entry)) (now (lambda .entry)) (now (delta .entry))) ⌝ }
-    ensures { λ _. ⌜ now (rows .exit) ≡ takeRows (now (bytes .entry)) (now (rows .entry)) (now (lambda .entry)) (now (delta .entry)) ⌝ }
-    ensures { λ _. ⌜ now (lambda .exit) ≡ takeLambda (now (bytes .entry)) (now (rows .entry)) (now (lambda .entry)) (now (delta .entry)) ⌝ }
-    ensures { λ _. ⌜ now (delta .exit) ≡ takeDelta (now (bytes .entry)) (now (rows .entry)) (now (lambda .entry)) (now (delta .entry)) ⌝ }
+    ensures { λ r. ⌜ r ≡ recordFor (taken (now (bytes .entry)) (now (rows .entry)) (now (lambda .entry)) (now (delta .entry)) (now (table .entry))) ⌝ }
+    ensures { λ _. ⌜ now (rows .exit) ≡ takeRows (now (bytes .entry)) (now (rows .entry)) (now (lambda .entry)) (now (delta .entry)) (now (table .entry)) ⌝ }
+    ensures { λ _. ⌜ now (lambda .exit) ≡ takeLambda (now (bytes .entry)) (now (rows .entry)) (now (lambda .entry)) (now (delta .entry)) (now (table .entry)) ⌝ }
+    ensures { λ _. ⌜ now (delta .exit) ≡ takeDelta (now (bytes .entry)) (now (rows .entry)) (now (lambda .entry)) (now (delta .entry)) (now (table .entry)) ⌝ }
+    ensures { λ _. ⌜ now (table .exit) ≡ takeTable (now (bytes .entry)) (now (rows .entry)) (now (lambda .entry)) (now (delta .entry)) (now (table .entry)) ⌝ }
 {
-    taken_as(records::take(bytes, rows, lambda, delta))
+    taken_as(taking::take(bytes, rows, lambda, delta, table))
 }
 
 // Writes the record of an accepted pyramid into a lent buffer; the table is left as the check leaves it.

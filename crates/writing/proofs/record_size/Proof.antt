@@ -1,6 +1,5 @@
 -- `writing::record_size` meets its contract. Assumes nothing.
-use mathlib.Core.Path.{_≡_, ap, sym}
-use Prim.Native.Nat.{ℕ, suc, _+_, _*_, _≤_}
+use Prim.Native.Nat.{_+_, _*_, _≤_}
 use native.Mathlib.Numerals.{add-one}
 use native.Mathlib.Omega.{arith}
 use borrow.Author.Needs.{needs}

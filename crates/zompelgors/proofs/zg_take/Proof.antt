@@ -20,10 +20,13 @@ same-length-2 c = search needs
 same-length-3 : tie.Need-same-length-3
 same-length-3 c = search needs
 
+same-length-4 : tie.Need-same-length-4
+same-length-4 c = search needs
+
 returns : tie.Need-returns
-returns c = let e = c .before .before .before .before .before .before .before .take .ensures in (c .taken-as .ensures ∙ ap recordFor (e .0), e .1)
+returns c = let e = c .before .before .before .before .before .before .before .before .before .take .ensures in (c .taken-as .ensures ∙ ap recordFor (e .0), e .1)
 
 pub zg-take-spec : {M : Type 1} → statement M
 zg-take-spec =
     tie.close
-    (tie.spec take-requires taken-as-requires same-length same-length-2 same-length-3 returns)
+    (tie.spec take-requires taken-as-requires same-length same-length-2 same-length-3 same-length-4 returns)

@@ -1,12 +1,10 @@
 -- `writing::putting::put_head` meets its contract: three bytes, one after the other. Assumes nothing.
-use mathlib.Core.Path.{_≡_, refl}
-use mathlib.Core.List.{List}
+use mathlib.Core.Path.{refl}
 use Prim.Native.Nat.{ℕ, _+_}
 use native.Mathlib.Omega.{arith}
-use lib.ListN.{length, getD, length-set}
+use lib.ListN.{getD, length-set}
 use denote.Ref.{now}
 use borrow.Author.Needs.{needs}
-use Rattle.records.specs.Parts.{Laid}
 use Rattle.records.proofs.Laid.{laid-none, laid-more}
 use Rattle.writing.specs.Put.{headOf}
 use Rattle.writing.proofs.putting.put_head.Statement.{statement}

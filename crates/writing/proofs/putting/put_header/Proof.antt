@@ -1,12 +1,11 @@
 -- `writing::putting::put_header` meets its contract: a head, and four bytes after it. Assumes nothing.
-use mathlib.Core.Path.{_≡_, refl}
+use mathlib.Core.Path.{refl}
 use mathlib.Core.List.{List, [], _∷_}
 use Prim.Native.Nat.{ℕ, _/_, _%_}
 use native.Mathlib.Omega.{arith}
-use lib.ListN.{length, getD, length-set}
+use lib.ListN.{getD, length-set}
 use borrow.Author.Needs.{needs}
-use Rattle.maps.specs.Write.{fieldWritten, inTwoBytes}
-use Rattle.records.specs.Parts.{Laid}
+use Rattle.maps.specs.Write.{inTwoBytes}
 use Rattle.records.proofs.Laid.{laid-none, laid-more}
 use Rattle.writing.proofs.Put.{put-field}
 use Rattle.writing.proofs.putting.put_header.Statement.{statement}

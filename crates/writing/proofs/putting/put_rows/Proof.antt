@@ -1,6 +1,6 @@
 -- `writing::putting::put_rows` meets its contract. The invariant: the rows passed are put, `from` and `at` are where the next stands. The measure: the rows left. Assumes nothing.
-use mathlib.Core.Path.{_≡_, refl, sym, ap}
-use Prim.Native.Nat.{ℕ, suc, _+_, _*_, _-_, _≤_, zero-le}
+use mathlib.Core.Path.{_≡_, sym}
+use Prim.Native.Nat.{suc, _+_, _*_, _-_, _≤_, zero-le}
 use native.Mathlib.Nat.{zero-mul}
 use native.Mathlib.Numerals.{add-one}
 use native.Mathlib.Omega.{arith}

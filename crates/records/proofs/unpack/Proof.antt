@@ -1,4 +1,4 @@
--- `records::take` meets its contract: nothing is copied before all is tested. Assumes nothing.
+-- `records::unpack` meets its contract: nothing is copied before all is tested. Assumes nothing.
 use mathlib.Core.Bool.{Bool, _&&_}
 use mathlib.Core.Path.{_≡_, refl, sym, ap₂, _∙_}
 use Prim.Native.Nat.{ℕ, suc, _+_, _*_}
@@ -10,13 +10,13 @@ use Rattle.maps.specs.Verdict.{accepted, _then_}
 use Rattle.maps.specs.Sizes.{sizes}
 use Rattle.maps.specs.Record.{byte, field}
 use Rattle.answers.proofs.Refusals.{told, refused-first, refused-second}
-use Rattle.records.proofs.Whole.{Told, left-alone, lent-is, small, room-for, all-taken}
-use Rattle.records.proofs.take.Statement.{statement}
-use Rattle.records.proofs.take.Tie as tie
+use Rattle.records.proofs.Whole.{Told, left-alone, lent-is, small, room-for, all-unpacked}
+use Rattle.records.proofs.unpack.Statement.{statement}
+use Rattle.records.proofs.unpack.Tie as tie
 
 -- where the job begins
 abbrev start : tie.After-header → tie.Start
-start s = s .before .before .before .before .before .before .before .before .before .before
+start s = s .before .before .before .before .before .before .before .before .before .before .before
 
 -- what was read: n, h and N
 abbrev n-of : tie.After-header → ℕ
@@ -29,8 +29,8 @@ abbrev N-of : tie.After-header → ℕ
 N-of s = s .before .two-bytes .result
 
 told-at : (s : tie.After-header) (one enough : Bool) → let a = start s .args in one ≡ (eqb (byte (now (a .bytes)) 7) 0x20 && leb (N-of s) 256)
-    → enough ≡ (leb (suc (n-of s) * N-of s) (length (now (a .rows))) && (leb (N-of s) (length (now (a .lambda))) && leb (N-of s) (length (now (a .delta)))))
-    → Told (now (a .bytes)) (now (a .rows)) (now (a .lambda)) (now (a .delta)) (n-of s) (h-of s) (N-of s) one enough
+    → enough ≡ (leb (suc (n-of s) * N-of s) (length (now (a .rows))) && (leb (N-of s) (length (now (a .lambda))) && (leb (N-of s) (length (now (a .delta))) && leb (suc (n-of s) * N-of s) (length (now (a .table))))))
+    → Told (now (a .bytes)) (now (a .rows)) (now (a .lambda)) (now (a .delta)) (now (a .table)) (n-of s) (h-of s) (N-of s) one enough
 told-at s one enough e f =
     record {
       dimension = s .before .before .before .before .before .byte-at .ensures;
@@ -41,7 +41,7 @@ told-at s one enough e f =
     }
 
 -- all that was read, and that the header is accepted
-all-told : (c : tie.After-long-enough) → let s = c .before .before .before .before in let a = start s .args in Told (now (a .bytes)) (now (a .rows)) (now (a .lambda)) (now (a .delta)) (n-of s) (h-of s) (N-of s) (c .before .one-byte .result) (c .long-enough .result)
+all-told : (c : tie.After-long-enough) → let s = c .before .before .before .before in let a = start s .args in Told (now (a .bytes)) (now (a .rows)) (now (a .lambda)) (now (a .delta)) (now (a .table)) (n-of s) (h-of s) (N-of s) (c .before .one-byte .result) (c .long-enough .result)
 all-told c = told-at (c .before .before .before .before) _ _ (c .before .one-byte .ensures) (c .long-enough .ensures)
 
 header-fine : (c : tie.After-long-enough) → let s = c .before .before .before .before in accepted ≡ field (now (start s .args .bytes)) 0 0x01 4 then sizes (n-of s) (N-of s) (h-of s)
@@ -51,7 +51,7 @@ returns : tie.Need-returns
 returns c =
     let s = c .before .before .before in
     let r = c .before .r .given in
-    left-alone _ _ _ _ (r .0 .0) (refused-first _ _ _ (lent-is (told-at s _ _ refl refl)) (r .0 .0) (told (s .header .ensures) (r .1)))
+    left-alone _ _ _ _ _ (r .0 .0) (refused-first _ _ _ (lent-is (told-at s _ _ refl refl)) (r .0 .0) (told (s .header .ensures) (r .1)))
 
 rest-requires : tie.Need-rest-requires
 rest-requires c κs =
@@ -63,7 +63,7 @@ returns-2 : tie.Need-returns-2
 returns-2 c =
     let m = c .before .before .before in
     let r = c .before .r2 .given in
-    left-alone _ _ _ _ (r .0 .0) (refused-second _ _ _ (lent-is (all-told (m .before))) (r .0 .0) (header-fine (m .before)) (told (m .rest .ensures) (r .1)))
+    left-alone _ _ _ _ _ (r .0 .0) (refused-second _ _ _ (lent-is (all-told (m .before))) (r .0 .0) (header-fine (m .before)) (told (m .rest .ensures) (r .1)))
 
 copy-all-requires : tie.Need-copy-all-requires
 copy-all-requires c κs =
@@ -75,10 +75,10 @@ returns-3 c =
     let k = c .before .before .before .before .before .before in
     let m = k .before .before .before .before .before .before in
     let laid = k .copy-all .ensures in
-    all-taken (all-told (m .before)) (sym (header-fine (m .before))) (sym (told (m .rest .ensures) (k .before .before .before .before .enum-told2 .given .1))) (laid .0) (laid .1 .0) (laid .1 .1)
+    all-unpacked (all-told (m .before)) (sym (header-fine (m .before))) (sym (told (m .rest .ensures) (k .before .before .before .before .enum-told2 .given .1))) (laid .0) (laid .1 .0) (laid .1 .1)
 
-pub take-spec : {M : Type 1} → statement M
-take-spec =
+pub unpack-spec : {M : Type 1} → statement M
+unpack-spec =
     tie.close
     (tie.spec
     (λ c κs. search needs)
