@@ -18,15 +18,16 @@ struct implementation {
     __typeof__(&plain_write) write;
     __typeof__(&plain_decimation) decimation;
     __typeof__(&plain_survivors) survivors;
+    __typeof__(&plain_census) census;
 };
 
 static const struct implementation implementations[] = {
     {"library", zg_check, zg_add, zg_unfold, zg_read, zg_read_by_levels, zg_mark_cells, zg_take, zg_write,
-     zg_decimation, zg_survivors},
+     zg_decimation, zg_survivors, zg_census},
     {"c", plain_check, plain_add, plain_unfold, plain_read, plain_read_by_levels, plain_mark_cells, plain_take,
-     plain_write, plain_decimation, plain_survivors},
+     plain_write, plain_decimation, plain_survivors, plain_census},
     {"skipping", plain_check, plain_add, plain_unfold, plain_read, plain_read_by_levels_skipping, plain_mark_cells,
-     plain_take, plain_write, plain_decimation, plain_survivors},
+     plain_take, plain_write, plain_decimation, plain_survivors, plain_census},
 };
 
 /* All that is lent. It is written once before anything is counted, so no page is touched for the first time then. */
@@ -36,6 +37,8 @@ static uint8_t marks[ZG_MOST_DARTS], kernel[ZG_MOST_DARTS], record[ZG_MOST_RECOR
 static uint8_t written[ZG_MOST_RECORD];
 static uint8_t lambda[ZG_MOST_DARTS], delta[ZG_MOST_DARTS];
 static uint64_t words[64];
+static uint16_t cells[ZG_CELLS];
+static int32_t sums[ZG_SUMS];
 static unsigned record_len;
 static size_t len; /* of rows and tables */
 
@@ -121,6 +124,12 @@ static void run_survivors(const struct implementation *by)
         refusals += by->survivors(map.darts, map.h, map.lambda, map.darts, (uint8_t)l, words, 64).refusal.number;
 }
 
+/* With its check. */
+static void run_census(const struct implementation *by)
+{
+    refusals += by->census(PYRAMID, table, len, cells, ZG_CELLS, sums, ZG_SUMS).number;
+}
+
 struct job {
     const char *name;
     void (*run)(const struct implementation *);
@@ -130,6 +139,7 @@ static const struct job jobs[] = {
     {"check", run_check}, {"add", run_add},   {"unfold", run_unfold}, {"read", run_read}, {"bylevels", run_by_levels},
     {"mark", run_mark},   {"take", run_take}, {"write", run_write},   {"survivors", run_survivors},
     {"decimation", run_decimation},
+    {"census", run_census},
 };
 
 /* ---------------------------------------------------------------- */
@@ -164,6 +174,8 @@ static void set_up(const char *name)
     memset(marks, 0, sizeof marks);
     memset(&taken, 0, sizeof taken);
     memset(words, 0, sizeof words);
+    memset(cells, 0, sizeof cells);
+    memset(sums, 0, sizeof sums);
     memset(written, 0, sizeof written);
 }
 

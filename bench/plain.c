@@ -858,3 +858,47 @@ zg_factor plain_decimation(uint8_t n, uint16_t darts, uint8_t h, const uint16_t 
         return (zg_factor){.empty = 1};
     return (zg_factor){.factor = (double)count / (double)next};
 }
+
+/* ---------------------------------------------------------------- census */
+
+/* The cells of one dimension of an explicit level, counted by their lowest darts: each dart is reached once. */
+static unsigned count_cells(unsigned n, unsigned darts, const uint16_t *table, unsigned dimension)
+{
+    uint8_t reached[ZG_MOST_DARTS] = {0};
+    unsigned count = 0;
+    for (unsigned d = 0; d < darts; d++)
+        if (table[d] != ZG_ABSENT && !reached[d]) {
+            reach(n, darts, table, but_one(dimension), d, reached, 1);
+            count++;
+        }
+    return count;
+}
+
+zg_refusal plain_census(uint8_t n, uint16_t darts, uint8_t h, const uint16_t *rows, size_t rows_len,
+                        const uint8_t *lambda, size_t lambda_len, const uint8_t *delta, size_t delta_len,
+                        uint16_t *table, size_t table_len, uint16_t *cells, size_t cells_len, int32_t *sums,
+                        size_t sums_len)
+{
+    unsigned bad = bad_size(n, darts, h);
+    if (bad)
+        return RESULT(zg_refusal, bad);
+    if (cells_len != ZG_CELLS || sums_len != ZG_SUMS)
+        return RESULT(zg_refusal, 4);
+    zg_refusal r = plain_check(n, darts, h, rows, rows_len, lambda, lambda_len, delta, delta_len, table, table_len);
+    if (r.number)
+        return r;
+    memset(cells, 0, ZG_CELLS * sizeof *cells);
+    memset(sums, 0, ZG_SUMS * sizeof *sums);
+    uint16_t mark[ZG_MOST_DARTS];
+    join_marks(darts, lambda, delta, mark);
+    for (unsigned l = 0; l <= h; l++) {
+        memcpy(table, rows, rows_len * sizeof *rows);
+        climb(n, darts, l, mark, table);
+        for (unsigned i = 0; i <= n; i++) {
+            unsigned count = count_cells(n, darts, table, i);
+            cells[5 * l + i] = (uint16_t)count;
+            sums[l] += i & 1 ? -(int32_t)count : (int32_t)count;
+        }
+    }
+    return r;
+}

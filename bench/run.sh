@@ -15,7 +15,7 @@ set -u
 source "$(dirname "$0")/../tests/tools.sh"
 BUILD=${BUILD:-target/bench} CPU=${CPU:-qemu64}
 maps=${MAPS:-"grid2 grid3 path32 grid4 strip voxels both1 both2 both3 both4 cycle vertex"}
-jobs=${JOBS:-"check add unfold read bylevels mark take write survivors decimation"}
+jobs=${JOBS:-"check add unfold read bylevels mark take write survivors decimation census"}
 
 need_compiler
 [ "$LIB" != c ] || need "$binutils" "$OBJCOPY" --version
@@ -55,11 +55,12 @@ count() {
     with=$(instructions "$@" 1) && without=$(instructions "$@" 0) && echo $((with - without))
 }
 
-# own IMPLEMENTATION JOB MAP: what a job takes itself; a taking ends, a writing and a decimation begin with a check, which is counted by itself.
+# own IMPLEMENTATION JOB MAP: what a job takes itself; a taking ends, a writing, a decimation and a
+# census begin with a check, which is counted by itself.
 own() {
     local all check=0
     all=$(count "$@") || return 1
-    case $2 in take | write | decimation) check=$(count "$1" check "$3") || return 1 ;; esac
+    case $2 in take | write | decimation | census) check=$(count "$1" check "$3") || return 1 ;; esac
     echo $((all - check))
 }
 

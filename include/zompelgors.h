@@ -16,7 +16,7 @@ extern "C" {
  * answers or is lent something else than before, MINOR when something is added, PATCH when neither is seen from here.
  */
 #define ZG_VERSION_MAJOR 5
-#define ZG_VERSION_MINOR 0
+#define ZG_VERSION_MINOR 1
 #define ZG_VERSION_PATCH 0
 #define ZG_VERSION (ZG_VERSION_MAJOR * 65536 + ZG_VERSION_MINOR * 256 + ZG_VERSION_PATCH)
 
@@ -26,6 +26,8 @@ extern "C" {
 #define ZG_MOST_ENTRIES ((ZG_MOST_DIMENSION + 1) * ZG_MOST_DARTS) /* of rows, or of a table */
 #define ZG_MOST_RECORD 49180 /* bytes of the largest record */
 #define ZG_WORDS 64          /* survivor words */
+#define ZG_CELLS 165         /* counts of a census: 33 rows of 5 */
+#define ZG_SUMS 33           /* sums of a census */
 #define ZG_ABSENT 65535      /* in an explicit level every entry of a dart that is removed or contracted */
 #define ZG_STAY 255          /* in a mark row: the dart stays */
 #define ZG_CONTRACT 8        /* in marks and delta: ZG_CONTRACT + d, 9 to 8+n, is a contraction of dimension d */
@@ -43,6 +45,8 @@ extern "C" {
  *   marks    a mark row, N entries: below n, remove with that dimension; 9 to 8+n, contract with dimension
  *            mark - ZG_CONTRACT; ZG_STAY, stay
  *   words    survivor words, ZG_WORDS entries: dart d at bit d mod 64 of word d div 64
+ *   cells    the counts of a census, ZG_CELLS entries: row l, the counts of level l, starts at entry 5 l
+ *   sums     the alternating sums of a census, ZG_SUMS entries
  *
  *   bytes    a record, or a buffer for one
  *
@@ -50,10 +54,11 @@ extern "C" {
  * be longer). A pointer must be aligned as its type asks and good for the length that is given with it, also where that
  * length is wrong; at length 0 it must still not be null, but any other address will do. Memory is lent for the call
  * only; no pointer is kept. Memory that is not const must not overlap any other memory lent to the same call; const
- * memory may overlap const memory. What table, marks and words held before is not read, unless the pointer is const.
+ * memory may overlap const memory. What table, marks, words, cells and sums held before is not read, unless the pointer
+ * is const.
  *
  * Nothing is allocated and nothing is kept between calls, so calls may run at once on several threads where none writes
- * what another is lent. zg_mark_cells takes the most stack, about 24 KiB.
+ * what another is lent. zg_census takes the most stack, about 26 KiB.
  *
  * What is returned
  *
@@ -321,6 +326,20 @@ zg_written zg_write(uint8_t n, uint16_t darts, uint8_t h, const uint16_t *rows, 
 zg_factor zg_decimation(uint8_t n, uint16_t darts, uint8_t h, const uint16_t *rows, size_t rows_len,
                         const uint8_t *lambda, size_t lambda_len, const uint8_t *delta, size_t delta_len,
                         uint16_t *table, size_t table_len, uint8_t level);
+
+/*
+ * A census of an accepted pyramid: the cells of each dimension of each level. Lent to read: rows, (n+1)N; lambda, N;
+ * delta, N. Lent to write: table, (n+1)N; cells, ZG_CELLS; sums, ZG_SUMS.
+ * Accepted: cells holds at 5 l + i the number of i-cells of level l, and sums at l their alternating sum, 0-cells minus
+ * 1-cells plus 2-cells and so on, which may be below zero; all places above level h or dimension n are 0. table holds
+ * the explicit level h.
+ * Refused 1, 2, 3, 4, 5, 6, 7, 8, 9, 10 as zg_check, which also says what table then holds; 4 for cells and sums too.
+ * cells and sums are untouched in a refusal.
+ */
+zg_refusal zg_census(uint8_t n, uint16_t darts, uint8_t h, const uint16_t *rows, size_t rows_len,
+                     const uint8_t *lambda, size_t lambda_len, const uint8_t *delta, size_t delta_len,
+                     uint16_t *table, size_t table_len, uint16_t *cells, size_t cells_len,
+                     int32_t *sums, size_t sums_len);
 
 #ifdef __cplusplus
 }

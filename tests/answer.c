@@ -45,6 +45,23 @@ static void *list(size_t *len, size_t size)
     return memory;
 }
 
+static int32_t *sums_list(size_t *len)
+{
+    *len = number(1 << 20);
+    int32_t *sums = malloc(*len * sizeof *sums + 1);
+    if (!sums)
+        bad_line("no memory");
+    for (size_t k = 0; k < *len; k++) {
+        char *end;
+        long long v = strtoll(rest, &end, 10);
+        if (end == rest || v < INT32_MIN || v > INT32_MAX)
+            bad_line("a sum is missing or too large for its type");
+        rest = end;
+        sums[k] = (int32_t)v;
+    }
+    return sums;
+}
+
 static void read_item(struct call *c, char item)
 {
     switch (item) {
@@ -61,6 +78,8 @@ static void read_item(struct call *c, char item)
     case 'M': c->marks = list(&c->marks_len, 1); break;
     case 'B': c->bytes = list(&c->bytes_len, 1); break;
     case 'W': c->words = list(&c->words_len, 8); break;
+    case 'C': c->cells = list(&c->cells_len, 2); break;
+    case 'S': c->sums = sums_list(&c->sums_len); break;
     }
 }
 
@@ -102,9 +121,16 @@ static void print_u64(const uint64_t *list, size_t len)
         printf(" %llu", (unsigned long long)list[k]);
 }
 
+static void print_i32(const int32_t *list, size_t len)
+{
+    printf(" %zu", len);
+    for (size_t k = 0; k < len; k++)
+        printf(" %d", list[k]);
+}
+
 static void print_answer(const struct call *c)
 {
-    if (c->job == LEVELS) {
+    if (c->job == LEVELS || c->job == CENSUS_PROGRAM) {
         puts(c->text);
         return;
     }
@@ -121,6 +147,8 @@ static void print_answer(const struct call *c)
         case 'B': print_u8(c->bytes, c->bytes_len); break;
         case 'W': print_u64(c->words, c->words_len); break;
         case 'F': printf(" %016llx", (unsigned long long)c->factor); break;
+        case 'C': print_u16(c->cells, c->cells_len); break;
+        case 'S': print_i32(c->sums, c->sums_len); break;
         }
     putchar('\n');
 }
@@ -134,6 +162,8 @@ static void free_call(struct call *c)
     free(c->marks);
     free(c->bytes);
     free(c->words);
+    free(c->cells);
+    free(c->sums);
 }
 
 int main(void)

@@ -14,13 +14,14 @@ enum { GUARD = 64, CANARY = 0xA5 };
 
 const char *const job_names[JOBS] = {
     "check_base", "check", "add", "marks", "read", "bylevels", "unfold", "row", "survivors", "mark", "take", "write",
-    "decimation", "levels"
+    "decimation", "levels", "census", "census_program"
 };
 const char *const case_forms[JOBS] = {
     "nDR", "nDhRLET", "nDhRLEMT", "nDhLElM", "nDhRLElid", "nDhRLElid", "nDhRLElT", "nDhRTli", "DhLlW", "nDTiM",
-    "BRLET", "nDhRLETB", "nDhRLETl", "B",
+    "BRLET", "nDhRLETB", "nDhRLETl", "B", "nDhRLETCS", "B",
 };
-const char *const answer_forms[JOBS] = {"", "T", "LET", "M", "", "", "T", "", "W", "M", "RLET", "TB", "FT", ""};
+const char *const answer_forms[JOBS] = {"", "T", "LET", "M", "", "", "T", "", "W", "M", "RLET", "TB", "FT", "",
+                                          "TCS", ""};
 
 enum place call_place = BETWEEN_CANARIES;
 void (*call_failed)(void);
@@ -34,11 +35,12 @@ struct lent {
     bool constant, in_use;
 };
 
-enum { IN_ROWS, IN_TABLE, IN_LAMBDA, IN_DELTA, IN_MARKS, IN_BYTES, IN_WORDS, LENTS };
+enum { IN_ROWS, IN_TABLE, IN_LAMBDA, IN_DELTA, IN_MARKS, IN_BYTES, IN_WORDS, IN_CELLS, IN_SUMS, LENTS };
 
 static struct lent lents[LENTS] = {
     {.name = "rows"}, {.name = "table"}, {.name = "lambda"}, {.name = "delta"},
-    {.name = "marks"}, {.name = "bytes"}, {.name = "words"},
+    {.name = "marks"}, {.name = "bytes"}, {.name = "words"}, {.name = "cells"},
+    {.name = "sums"},
 };
 
 static void fail(const struct call *c, const char *what, const char *name)
@@ -102,6 +104,8 @@ static uint8_t *marks_out(const struct call *c) { return lend(IN_MARKS, c->marks
 static const uint8_t *bytes_in(const struct call *c) { return lend(IN_BYTES, c->bytes, c->bytes_len, 1, true); }
 static uint8_t *bytes_out(const struct call *c) { return lend(IN_BYTES, c->bytes, c->bytes_len, 1, false); }
 static uint64_t *words_out(const struct call *c) { return lend(IN_WORDS, c->words, c->words_len, 8, false); }
+static uint16_t *cells_out(const struct call *c) { return lend(IN_CELLS, c->cells, c->cells_len, 2, false); }
+static int32_t *sums_out(const struct call *c) { return lend(IN_SUMS, c->sums, c->sums_len, 4, false); }
 
 static bool filled(const unsigned char *guard)
 {
@@ -278,12 +282,23 @@ static void call_decimation(struct call *c)
     memcpy(&c->factor, &r.factor, sizeof r.factor);
 }
 
-static bool say_refusal(struct call *levels, const struct call *step)
+static void call_census(struct call *c)
 {
-    memcpy(levels->refusal, step->refusal, sizeof step->refusal);
+    const uint16_t *rows = rows_in(c);
+    const uint8_t *lambda = lambda_in(c), *delta = delta_in(c);
+    uint16_t *table = table_out(c), *cells = cells_out(c);
+    int32_t *sums = sums_out(c);
+    zg_refusal r = zg_census((uint8_t)c->n, (uint16_t)c->darts, (uint8_t)c->h, rows, c->rows_len, lambda, c->lambda_len,
+                             delta, c->delta_len, table, c->table_len, cells, c->cells_len, sums, c->sums_len);
+    take_refusal(c, r);
+}
+
+static bool say_refusal(struct call *program, const struct call *step)
+{
+    memcpy(program->refusal, step->refusal, sizeof step->refusal);
     const unsigned *r = step->refusal;
     if (r[0])
-        sprintf(levels->text, "refused %u %u %u %u", r[0], r[1], r[2], r[3]);
+        sprintf(program->text, "refused %u %u %u %u", r[0], r[1], r[2], r[3]);
     return r[0] != 0;
 }
 
@@ -307,33 +322,67 @@ static bool say_level(struct call *levels, struct call *step, unsigned level)
     return true;
 }
 
-/* What the program levels does with a record: take, then unfold each level. */
-static void call_levels(struct call *c)
+/* The record of a program, taken and checked into the step that lends it on. */
+static bool take_for(struct call *program, struct call *step)
 {
     static uint16_t rows[ZG_MOST_ENTRIES], table[ZG_MOST_ENTRIES];
     static uint8_t lambda[ZG_MOST_DARTS], delta[ZG_MOST_DARTS];
-    struct call step = {.job = TAKE, .bytes = c->bytes, .bytes_len = c->bytes_len, .rows = rows, .table = table,
-                        .lambda = lambda, .delta = delta, .rows_len = ZG_MOST_ENTRIES,
-                        .table_len = ZG_MOST_ENTRIES, .lambda_len = ZG_MOST_DARTS, .delta_len = ZG_MOST_DARTS};
-    call_job(&step);
-    if (say_refusal(c, &step))
+    *step = (struct call){.job = TAKE, .bytes = program->bytes, .bytes_len = program->bytes_len, .rows = rows,
+                          .table = table, .lambda = lambda, .delta = delta, .rows_len = ZG_MOST_ENTRIES,
+                          .table_len = ZG_MOST_ENTRIES, .lambda_len = ZG_MOST_DARTS, .delta_len = ZG_MOST_DARTS};
+    call_job(step);
+    if (say_refusal(program, step))
+        return false;
+    step->n = step->found[0];
+    step->h = step->found[1];
+    step->darts = step->found[2];
+    step->rows_len = step->table_len = (size_t)(step->n + 1) * step->darts;
+    step->lambda_len = step->delta_len = step->darts;
+    return true;
+}
+
+/* What the program levels does with a record: take it, then unfold each level. */
+static void call_levels(struct call *c)
+{
+    struct call step;
+    if (!take_for(c, &step))
         return;
-    step.n = step.found[0];
-    step.h = step.found[1];
-    step.darts = step.found[2];
-    step.rows_len = step.table_len = (size_t)(step.n + 1) * step.darts;
-    step.lambda_len = step.delta_len = step.darts;
     sprintf(c->text, "%u %u %u", step.n, step.darts, step.h);
     for (unsigned level = 0; level <= step.h; level++)
         if (!say_level(c, &step, level))
             return;
 }
 
+/* What the program census does: take, then the census, a line for each level. */
+static void call_census_program(struct call *c)
+{
+    struct call step;
+    uint16_t cells[ZG_CELLS] = {0};
+    int32_t sums[ZG_SUMS] = {0};
+    if (!take_for(c, &step))
+        return;
+    step.job = CENSUS;
+    step.cells = cells;
+    step.cells_len = ZG_CELLS;
+    step.sums = sums;
+    step.sums_len = ZG_SUMS;
+    call_job(&step);
+    if (say_refusal(c, &step))
+        return;
+    char *at = c->text;
+    for (unsigned level = 0; level <= step.h; level++) {
+        at += sprintf(at, level ? " / %u" : "%u", level);
+        for (unsigned i = 0; i <= step.n; i++)
+            at += sprintf(at, " %u", cells[5 * level + i]);
+        at += sprintf(at, " %d", sums[level]);
+    }
+}
+
 void call_job(struct call *c)
 {
     static void (*const calls[JOBS])(struct call *) = {
         call_check_base, call_check, call_add, call_marks, call_read, call_by_levels, call_unfold, call_row,
-        call_survivors, call_mark, call_take, call_write, call_decimation, call_levels,
+        call_survivors, call_mark, call_take, call_write, call_decimation, call_levels, call_census, call_census_program,
     };
     c->founds = 0;
     c->factor = 0;

@@ -11,13 +11,14 @@ extern "C" {
 
 enum job {
     CHECK_BASE, CHECK, ADD, MARKS, READ, BY_LEVELS, UNFOLD, ROW, SURVIVORS, MARK, TAKE, WRITE, DECIMATION,
-    LEVELS, JOBS
+    LEVELS,
+    CENSUS, CENSUS_PROGRAM, JOBS
 };
 
 /*
  * How the vectors write the jobs, in the order of enum job: their names, what a case's line holds, and what stands in
  * the answer behind the refusal and the numbers found. n, N (D), h; rows (R), table (T), lambda (L), delta (E),
- * marks (M), words (W), bytes (B); level (l), involution or dimension (i), dart (d); the bits of a factor (F).
+ * marks (M), words (W), bytes (B), cells (C), sums (S); level (l), involution or dimension (i), dart (d); the bits of a factor (F).
  */
 extern const char *const job_names[JOBS], *const case_forms[JOBS], *const answer_forms[JOBS];
 
@@ -28,16 +29,17 @@ extern const char *const job_names[JOBS], *const case_forms[JOBS], *const answer
 struct call {
     enum job job;
     unsigned n, darts, h, level, involution, dart;
-    uint16_t *rows, *table;
+    uint16_t *rows, *table, *cells;
     uint8_t *lambda, *delta, *marks, *bytes;
     uint64_t *words;
-    size_t rows_len, table_len, lambda_len, delta_len, marks_len, bytes_len, words_len;
+    int32_t *sums;
+    size_t rows_len, table_len, lambda_len, delta_len, marks_len, bytes_len, words_len, cells_len, sums_len;
 
     unsigned refusal[4]; /* number, level, involution, dart */
     unsigned found[3];   /* in the order of the vectors' answers */
     unsigned founds;     /* how many of them the job has */
     uint64_t factor;     /* DECIMATION: the bits of its double */
-    char text[2048];     /* LEVELS: its lines, joined by " / " */
+    char text[2048];     /* LEVELS, CENSUS_PROGRAM: their lines, joined by " / " */
 };
 
 /* Where a buffer lies: with 64 filled bytes on both sides, or with its end or its beginning at an unreadable page. */

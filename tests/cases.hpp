@@ -11,25 +11,28 @@
 #include <iomanip>
 #include <sstream>
 #include <string>
+#include <type_traits>
 
 using independent::Bytes;
 using independent::Entries;
 using independent::Refusal;
+using independent::Sums;
 using independent::Words;
 
 // What is lent and asked, as in struct call; after an answer the buffers hold what was left in them.
 struct Case {
     job what = CHECK_BASE;
     unsigned n = 0, darts = 0, h = 0, level = 0, involution = 0, dart = 0;
-    Entries rows, table;
+    Entries rows, table, cells;
     Bytes lambda, delta, marks, bytes;
     Words words;
+    Sums sums;
 };
 
 inline bool same_lent(const Case& x, const Case& y)
 {
     return x.rows == y.rows && x.table == y.table && x.lambda == y.lambda && x.delta == y.delta &&
-           x.marks == y.marks && x.bytes == y.bytes && x.words == y.words;
+           x.marks == y.marks && x.bytes == y.bytes && x.words == y.words && x.cells == y.cells && x.sums == y.sums;
 }
 
 struct Answer {
@@ -49,13 +52,17 @@ inline bool same_answer(const Answer& x, const Answer& y)
 
 // ---------------------------------------------------------------- the vectors' format
 
+// An entry as it is read and printed: a number, also where it is a byte.
+template <class List>
+using Printed = std::conditional_t<std::is_signed_v<typename List::value_type>, long long, unsigned long long>;
+
 template <class List> void read_list(std::istream& in, List& list)
 {
     std::size_t length = 0;
     in >> length;
     list.resize(length);
     for (auto& entry : list) {
-        unsigned long long v = 0;
+        Printed<List> v = 0;
         in >> v;
         entry = static_cast<typename List::value_type>(v);
     }
@@ -65,7 +72,7 @@ template <class List> void write_list(std::ostream& out, const List& list)
 {
     out << ' ' << list.size();
     for (const auto entry : list)
-        out << ' ' << static_cast<unsigned long long>(entry);
+        out << ' ' << static_cast<Printed<List>>(entry);
 }
 
 inline void read_item(std::istream& in, Case& c, char item)
@@ -84,6 +91,8 @@ inline void read_item(std::istream& in, Case& c, char item)
     case 'M': read_list(in, c.marks); break;
     case 'B': read_list(in, c.bytes); break;
     case 'W': read_list(in, c.words); break;
+    case 'C': read_list(in, c.cells); break;
+    case 'S': read_list(in, c.sums); break;
     }
 }
 
@@ -103,6 +112,8 @@ inline void write_item(std::ostream& out, const Case& c, char item)
     case 'M': write_list(out, c.marks); break;
     case 'B': write_list(out, c.bytes); break;
     case 'W': write_list(out, c.words); break;
+    case 'C': write_list(out, c.cells); break;
+    case 'S': write_list(out, c.sums); break;
     }
 }
 
@@ -137,7 +148,7 @@ inline std::string case_line(const Case& c)
 
 inline std::string answer_line(const Case& after, const Answer& a)
 {
-    if (after.what == LEVELS)
+    if (after.what == LEVELS || after.what == CENSUS_PROGRAM)
         return a.text;
     std::ostringstream out;
     const Refusal& r = a.refusal;
@@ -199,13 +210,15 @@ inline void answer_or_throw(Case& c, Answer& a)
         break;
     }
     case LEVELS: a.text = by::levels(c.bytes); break;
+    case CENSUS: by::census(c.n, c.darts, c.h, c.rows, c.lambda, c.delta, c.table, c.cells, c.sums); break;
+    case CENSUS_PROGRAM: a.text = by::census_program(c.bytes); break;
     case JOBS: break;
     }
 }
 
 inline Answer answer_independently(Case& c)
 {
-    static const unsigned founds[JOBS] = {0, 0, 1, 0, 3, 2, 2, 3, 1, 0, 3, 1, 1, 0};
+    static const unsigned founds[JOBS] = {0, 0, 1, 0, 3, 2, 2, 3, 1, 0, 3, 1, 1, 0, 0, 0};
     Answer a;
     a.founds = founds[c.what];
     if (c.what == ADD)
@@ -245,9 +258,13 @@ inline Answer answer_by_library(Case& c)
     k.bytes_len = c.bytes.size();
     k.words = c.words.data();
     k.words_len = c.words.size();
+    k.cells = c.cells.data();
+    k.cells_len = c.cells.size();
+    k.sums = c.sums.data();
+    k.sums_len = c.sums.size();
     call_job(&k);
     Answer a;
-    if (c.what != LEVELS)
+    if (c.what != LEVELS && c.what != CENSUS_PROGRAM)
         a.refusal = {k.refusal[0], k.refusal[1], k.refusal[2], k.refusal[3]};
     a.founds = k.founds;
     for (unsigned x = 0; x < k.founds; x++)

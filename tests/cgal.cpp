@@ -19,6 +19,7 @@ using independent::Bytes;
 using independent::Entries;
 using independent::Kind;
 using independent::Map;
+using independent::Sums;
 using maps::Cell;
 using maps::Pyramid;
 using maps::Random;
@@ -58,6 +59,14 @@ unsigned mark_cells(const Pyramid& p, const Entries& table, unsigned dimension, 
         .number;
 }
 
+unsigned take_census(const Pyramid& p, Entries& table, Entries& counts, Sums& sums)
+{
+    return zg_census(std::uint8_t(p.n), std::uint16_t(p.darts), std::uint8_t(p.h), p.rows.data(), p.rows.size(),
+                     p.lambda.data(), p.lambda.size(), p.delta.data(), p.delta.size(), table.data(), table.size(),
+                     counts.data(), counts.size(), sums.data(), sums.size())
+        .number;
+}
+
 #else
 
 template <class Job> unsigned number_of(Job job)
@@ -88,6 +97,12 @@ unsigned unfold_level(const Pyramid& p, unsigned level, Entries& table)
 unsigned mark_cells(const Pyramid& p, const Entries& table, unsigned dimension, Bytes& marks)
 {
     return number_of([&] { independent::mark(p.n, p.darts, table, dimension, marks); });
+}
+
+unsigned take_census(const Pyramid& p, Entries& table, Entries& counts, Sums& sums)
+{
+    return number_of(
+        [&] { independent::census(p.n, p.darts, p.h, p.rows, p.lambda, p.delta, table, counts, sums); });
 }
 
 #endif
@@ -175,6 +190,15 @@ public:
         });
     }
 
+    // How many cells of each dimension there are, in five places. CGAL doesn't count those of a map without darts.
+    Entries counts()
+    {
+        Entries all(5, 0);
+        if (!numbers.empty())
+            count_from<0>(all);
+        return all;
+    }
+
     Entries table()
     {
         Entries rows(std::size_t(n + 1) * darts, independent::none);
@@ -185,6 +209,14 @@ public:
     }
 
 private:
+    template <unsigned i> void count_from(Entries& all)
+    {
+        if constexpr (i <= n) {
+            all[i] = std::uint16_t(gmap.template one_dart_per_cell<i>().size());
+            count_from<i + 1>(all);
+        }
+    }
+
     static Kind kind(const Cell& cell) { return independent::mark_of(n, cell.mark).kind; }
 
     // Calls something with the cell's dimension as a constant, for CGAL's templates.
@@ -211,7 +243,7 @@ struct Verdicts {
 };
 
 struct Tally {
-    unsigned long pyramids = 0, levels = 0, removed = 0, contracted = 0, left_out = 0, most_darts = 0;
+    unsigned long pyramids = 0, levels = 0, removed = 0, contracted = 0, left_out = 0, most_darts = 0, counted = 0;
     Verdicts removable, contractible;
 };
 
@@ -290,6 +322,21 @@ Bytes take_some(Random& r, const Pyramid& p, std::vector<Cell> all, Twin<n>& twi
     return Bytes(kernel.begin(), kernel.end());
 }
 
+// The census against the cells that CGAL counted on each level, and the sums against those counts.
+void compare_census(const Pyramid& p, const std::vector<Entries>& counts, Tally& tally)
+{
+    Entries table(p.rows.size()), cells(165, 7);
+    Sums sums(33, 7);
+    demand(take_census(p, table, cells, sums) == 0, "the census is refused", p);
+    for (unsigned l = 0; l < 33; l++) {
+        const Entries row(cells.begin() + 5 * l, cells.begin() + 5 * l + 5);
+        const Entries due = l <= p.h ? counts[l] : Entries(5, 0);
+        demand(row == due, "a level has other numbers of cells", p);
+        demand(sums[l] == due[0] - due[1] + due[2] - due[3] + due[4], "a level has another alternating sum", p);
+        tally.counted += std::accumulate(due.begin(), due.end(), 0ul);
+    }
+}
+
 template <unsigned n> void compare_pyramid(Random& r, Tally& tally)
 {
     const unsigned darts = r.chance(50) ? r.between(1, 60) : r.between(40, n == 4 ? 800 : 400);
@@ -297,7 +344,7 @@ template <unsigned n> void compare_pyramid(Random& r, Tally& tally)
     Pyramid p = maps::begin(base);
     Twin<n> twin(base);
     demand(twin.valid(), "CGAL finds the base not valid", p);
-    std::vector<Entries> levels{twin.table()};
+    std::vector<Entries> levels{twin.table()}, counts{twin.counts()};
     const maps::Kinds kinds = maps::random_kinds(r);
     for (unsigned height = r.between(1, 6); p.h < height;) {
         const Map top(n, p.darts, levels.back());
@@ -306,12 +353,14 @@ template <unsigned n> void compare_pyramid(Random& r, Tally& tally)
         Entries table(p.rows.size());
         demand(add_level(p, marks, table) == 0, "a kernel is refused", p);
         levels.push_back(twin.table());
+        counts.push_back(twin.counts());
         demand(table == levels.back(), "the level added is another", p);
     }
     Entries table(p.rows.size());
     demand(check_pyramid(p, table) == 0 && table == levels.back(), "the top level of the check is another", p);
     for (unsigned l = 0; l <= p.h; l++)
         demand(unfold_level(p, l, table) == 0 && table == levels[l], "an unfolded level is another", p);
+    compare_census(p, counts, tally);
     tally.pyramids++;
     tally.levels += levels.size();
     tally.most_darts = std::max<unsigned long>(tally.most_darts, p.darts);
@@ -335,8 +384,8 @@ int main(int argc, char** argv)
         }
     std::printf("%lu pyramids of dimension 2 to 4 (to %lu darts), %lu levels, %lu cells removed and %lu contracted, "
                 "verdicts on %lu removable and %lu other cells, %lu contractible and %lu other cells, %lu folded cells "
-                "left out: 0 differences\n",
+                "left out, %lu cells counted: 0 differences\n",
                 tally.pyramids, tally.most_darts, tally.levels, tally.removed, tally.contracted, tally.removable.fit,
-                tally.removable.others, tally.contractible.fit, tally.contractible.others, tally.left_out);
+                tally.removable.others, tally.contractible.fit, tally.contractible.others, tally.left_out, tally.counted);
     return 0;
 }

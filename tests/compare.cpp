@@ -27,6 +27,8 @@ const std::vector<unsigned> possible[JOBS] = {
     {0, 1, 2, 3, 4, 5, 6, 7, 8, 9, 10},
     {0, 1, 2, 3, 4, 5, 6, 7, 8, 9, 10, 11},
     {0, 1, 2, 3, 5, 6, 7, 8, 9, 10, 16, 17, 18, 19},
+    {0, 1, 2, 3, 4, 5, 6, 7, 8, 9, 10},
+    {0, 1, 2, 3, 5, 6, 7, 8, 9, 10, 16, 17, 18, 19},
 };
 
 struct Tally {
@@ -37,7 +39,7 @@ struct Tally {
     void count(const Case& c, const Answer& a, const Pyramid& source)
     {
         unsigned number = a.refusal.number;
-        if (c.what == LEVELS)
+        if (c.what == LEVELS || c.what == CENSUS_PROGRAM)
             std::sscanf(a.text.c_str(), "refused %u", &number);
         assert(number < numbers);
         seen[c.what][number]++;
@@ -52,11 +54,11 @@ struct Tally {
 
     void print() const
     {
-        std::printf("%-10s", "number");
+        std::printf("%-14s", "number");
         for (unsigned x = 0; x < numbers; x++)
             std::printf(" %6u", x);
         for (unsigned j = 0; j < JOBS; j++) {
-            std::printf("\n%-10s", job_names[j]);
+            std::printf("\n%-14s", job_names[j]);
             for (unsigned x = 0; x < numbers; x++)
                 seen[j][x] ? std::printf(" %6lu", seen[j][x]) : std::printf("      .");
         }

@@ -16,6 +16,7 @@ namespace independent {
 using Entries = std::vector<std::uint16_t>;
 using Bytes = std::vector<std::uint8_t>;
 using Words = std::vector<std::uint64_t>;
+using Sums = std::vector<std::int32_t>;
 
 constexpr unsigned none = 65535; // every row entry of a dart that is not on an explicit level
 constexpr unsigned stay = 255;   // in a mark row
@@ -728,6 +729,68 @@ inline Factor decimation(unsigned n, unsigned darts, unsigned h, const Entries& 
     return next ? Factor{false, nearest_double(on(level), next)} : Factor{true, 0};
 }
 
+// ---------------------------------------------------------------- the census
+
+inline unsigned count_cells(const Map& m, unsigned i)
+{
+    Groups cell = cells(m, i);
+    unsigned count = 0;
+    for (unsigned d = 0; d < m.darts; d++)
+        count += m.present(d) && cell.find(d) == d;
+    return count;
+}
+
+inline void census(unsigned n, unsigned darts, unsigned h, const Entries& rows, const Bytes& lambda,
+                   const Bytes& delta, Entries& table, Entries& counts, Sums& sums)
+{
+    demand_pyramid_lengths(n, darts, h, rows, lambda, delta);
+    demand_length(table.size(), rows.size());
+    demand_length(counts.size(), 165);
+    demand_length(sums.size(), 33);
+    check(n, darts, h, rows, lambda, delta, table);
+    counts.assign(165, 0);
+    sums.assign(33, 0);
+    Map level(n, darts, rows);
+    for (unsigned l = 0; l <= h; l++) {
+        for (unsigned i = 0; i <= n; i++) {
+            const unsigned count = count_cells(level, i);
+            counts[5 * l + i] = std::uint16_t(count);
+            sums[l] += i % 2 ? -int(count) : int(count);
+        }
+        if (l < h)
+            level = reduce(level, kernel_of(lambda, delta, l));
+    }
+}
+
+// ---------------------------------------------------------------- the programs
+
+inline std::string said(const Refusal& r)
+{
+    return "refused " + std::to_string(r.number) + ' ' + std::to_string(r.level) + ' ' +
+           std::to_string(r.involution) + ' ' + std::to_string(r.dart);
+}
+
+// What the program census prints, its lines joined by " / ".
+inline std::string census_program(const Bytes& bytes)
+{
+    try {
+        const Record r = parse(bytes);
+        Entries table(r.rows.size()), counts(165);
+        Sums sums(33);
+        census(r.n, r.darts, r.h, r.rows, r.lambda, r.delta, table, counts, sums);
+        std::string text;
+        for (unsigned l = 0; l <= r.h; l++) {
+            text += (l ? " / " : "") + std::to_string(l);
+            for (unsigned i = 0; i <= r.n; i++)
+                text += ' ' + std::to_string(counts[5 * l + i]);
+            text += ' ' + std::to_string(sums[l]);
+        }
+        return text;
+    } catch (const Refusal& r) {
+        return said(r);
+    }
+}
+
 // What the program levels prints, its lines joined by " / ".
 inline std::string levels(const Bytes& bytes)
 {
@@ -745,8 +808,7 @@ inline std::string levels(const Bytes& bytes)
         }
         return text;
     } catch (const Refusal& r) {
-        return "refused " + std::to_string(r.number) + ' ' + std::to_string(r.level) + ' ' +
-               std::to_string(r.involution) + ' ' + std::to_string(r.dart);
+        return said(r);
     }
 }
 

@@ -271,6 +271,8 @@ inline void damage_item(Random& r, Case& c, char item)
     case 'M': r.chance(15) ? change_length(r, c.marks) : damage_marks(r, c, c.marks); break;
     case 'B': change_length(r, c.bytes); break;
     case 'W': change_length(r, c.words); break;
+    case 'C': change_length(r, c.cells); break;
+    case 'S': change_length(r, c.sums); break;
     }
 }
 
@@ -429,6 +431,8 @@ inline void lend_pyramid(Random& r, Case& c, const Pyramid& source)
     c.table = junk<Entries>(r, p.rows.size());
     c.marks = c.what == ADD ? kernel_row(source, h) : junk<Bytes>(r, p.darts);
     c.words = junk<Words>(r, 64);
+    c.cells = junk<Entries>(r, 165);
+    c.sums = junk<Sums>(r, 33);
 }
 
 inline void lend_level(Random& r, Case& c, const Pyramid& source)
@@ -483,6 +487,10 @@ inline void drop_the_rest(Case& c)
         c.marks.clear();
     if (!takes('W'))
         c.words.clear();
+    if (!takes('C'))
+        c.cells.clear();
+    if (!takes('S'))
+        c.sums.clear();
 }
 
 inline Case random_case(Random& r, const Pyramid& source)
@@ -493,14 +501,15 @@ inline Case random_case(Random& r, const Pyramid& source)
     ask(r, c);
     if (c.what == MARK)
         lend_level(r, c, source);
-    if (c.what == TAKE || c.what == LEVELS)
+    const bool record = c.what == TAKE || c.what == LEVELS || c.what == CENSUS_PROGRAM;
+    if (record)
         lend_record(r, c);
     if (c.what == WRITE)
         lend_buffer(r, c);
     if (c.what == DECIMATION && c.h > 0 && r.chance(90))
         c.level = r.below(c.h);
     drop_the_rest(c);
-    if (c.what != TAKE && c.what != LEVELS)
+    if (!record)
         damage(r, c);
     return c;
 }

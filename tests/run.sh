@@ -122,16 +122,31 @@ if can "vectors, library" "${for_c[@]}" && built "vectors, library" build_answer
     fi
 fi
 
-# ---------------------------------------------------------------- the program levels
+# ---------------------------------------------------------------- the programs
 
-levels=target/bin/levels
-if [ ! -f $levels ]; then
-    echo "program levels: left out, there is no $levels (rt check levels)"
-    left_out=$((left_out + 1))
-elif can "program levels" python3 "${for_c[@]}"; then
-    tests/levels.py answers "${names[@]}" >"$BUILD/levels.answers"
-    same "program levels" "$BUILD/levels.out" "$BUILD/levels.answers" \
-        tests/levels.py run "${names[@]}" -- "${run[@]}" $levels
+# program NAME JOB: on the records of the vectors of that job.
+program() {
+    local program=target/bin/$1 title="program $1"
+    if [ ! -f "$program" ]; then
+        echo "$title: left out, there is no $program (rt check $1)"
+        left_out=$((left_out + 1))
+    elif can "$title" python3 "${for_c[@]}"; then
+        tests/programs.py answers "$2" "${names[@]}" >"$BUILD/$1.answers"
+        same "$title" "$BUILD/program_$1.out" "$BUILD/$1.answers" \
+            tests/programs.py run "$2" "${names[@]}" -- "${run[@]}" "$program"
+    fi
+}
+program levels levels
+program census census_program
+# The census of the sample records, which the gate doesn't run.
+censuses() {
+    local record
+    for record in star voxels; do
+        "${run[@]}" target/bin/census <samples/$record.record
+    done
+}
+if [ -f target/bin/census ] && can "program census on samples" "${for_c[@]}"; then
+    same "program census on samples" "$BUILD/samples.txt" samples/census.stdout censuses
 fi
 
 # ---------------------------------------------------------------- the independent implementation, and CGAL

@@ -65,6 +65,9 @@ pub const MOST_RECORD: usize = 49_180;
 /// How many survivor words there are.
 pub const WORDS: usize = 64;
 
+/// How many rows of five counts, and how many sums, a census has: one for each level that there may be.
+pub const SUMS: usize = 33;
+
 /// The version of the library: 65,536 times its major number, 256 times its minor one, and its patch.
 pub fn version() -> u32 {
     // Safety: it is lent nothing.

@@ -1,6 +1,6 @@
 //! A folded pyramid, borrowed, and the jobs that take one.
 use crate::answers::{Dimension, Factor, Level, Link, Reading, Refusal, Unfolding};
-use crate::raw;
+use crate::{raw, SUMS};
 
 /// The question, put to one of the two readings.
 macro_rules! ask {
@@ -104,6 +104,39 @@ impl<'a> Pyramid<'a> {
             0 => Factor::By(r.factor),
             _ => Factor::Empty,
         })
+    }
+
+    /// Checks the whole pyramid and counts the cells of each level: `cells[l][i]` is the number of `i`-cells of level `l`
+    /// and `sums[l]` their alternating sum; unused places are 0. The table is left as [`Pyramid::check`] leaves it; a
+    /// refusal leaves counts and sums as they were.
+    pub fn census(
+        &self,
+        table: &mut [u16],
+        cells: &mut [[u16; 5]; SUMS],
+        sums: &mut [i32; SUMS],
+    ) -> Result<(), Refusal> {
+        // Safety: every pointer comes from a slice with its own length or an array with its own, rows of an array of
+        // arrays lie one behind the other, and only exclusive ones are written through.
+        let answer = unsafe {
+            raw::zg_census(
+                self.n.0,
+                self.darts,
+                self.h.0,
+                self.rows.as_ptr(),
+                self.rows.len(),
+                self.lambda.as_ptr(),
+                self.lambda.len(),
+                self.delta.as_ptr(),
+                self.delta.len(),
+                table.as_mut_ptr(),
+                table.len(),
+                cells.as_mut_ptr().cast(),
+                5 * SUMS,
+                sums.as_mut_ptr(),
+                SUMS,
+            )
+        };
+        answer.accepted()
     }
 
     /// One neighbour on a level by the direct walk, on any tables, checked before or not, and since which level the

@@ -213,4 +213,22 @@ extern "C" {
         table_len: usize,
         level: u8,
     ) -> ZgFactor;
+
+    pub fn zg_census(
+        n: u8,
+        darts: u16,
+        h: u8,
+        rows: *const u16,
+        rows_len: usize,
+        lambda: *const u8,
+        lambda_len: usize,
+        delta: *const u8,
+        delta_len: usize,
+        table: *mut u16,
+        table_len: usize,
+        cells: *mut u16,
+        cells_len: usize,
+        sums: *mut i32,
+        sums_len: usize,
+    ) -> ZgRefusal;
 }

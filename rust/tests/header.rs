@@ -1,7 +1,7 @@
 //! Phrases, version and largest sizes are those of include/zompelgors.h.
 use std::{fs, path::Path};
 use zompelgors::{
-    version, Refusal, ABSENT, CONTRACT, MOST_DARTS, MOST_LEVELS, MOST_RECORD, STAY, WORDS,
+    version, Refusal, ABSENT, CONTRACT, MOST_DARTS, MOST_LEVELS, MOST_RECORD, STAY, SUMS, WORDS,
 };
 
 fn header() -> String {
@@ -59,6 +59,8 @@ fn sizes() {
     assert_eq!(defined("ZG_MOST_LEVELS"), MOST_LEVELS);
     assert_eq!(defined("ZG_MOST_RECORD"), MOST_RECORD);
     assert_eq!(defined("ZG_WORDS"), WORDS);
+    assert_eq!(defined("ZG_SUMS"), SUMS);
+    assert_eq!(defined("ZG_CELLS"), 5 * SUMS);
     assert_eq!(defined("ZG_ABSENT"), usize::from(ABSENT));
     assert_eq!(defined("ZG_STAY"), usize::from(STAY));
     assert_eq!(defined("ZG_CONTRACT"), usize::from(CONTRACT));

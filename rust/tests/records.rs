@@ -1,7 +1,7 @@
 //! Records taken through the binding: the star's, whole and cut short, and the pipe's.
 use std::{fs, path::Path};
 use zompelgors::{
-    take, Dimension, Header, Level, Pyramid, PyramidBuf, Refusal, MOST_RECORD, WORDS,
+    take, Dimension, Header, Level, Pyramid, PyramidBuf, Refusal, MOST_RECORD, SUMS, WORDS,
 };
 
 fn sample() -> Vec<u8> {
@@ -173,4 +173,28 @@ fn star_written() {
     assert_eq!((&bytes[..118], &bytes[118..]), (&whole[..], &[9; 12][..]));
     let refusal = pyramid.lend().write(&mut table, &mut bytes[..117]).unwrap_err();
     assert_eq!(refusal.number, 4);
+}
+
+/// Cells of each dimension and alternating sum of each level, as the program census prints them.
+#[test]
+fn pipe_census() {
+    let pipe = PyramidBuf::from_record(&record("pipe")).unwrap();
+    let (mut table, mut cells, mut sums) = (vec![0; pipe.entries()], [[9; 5]; SUMS], [9; SUMS]);
+    assert_eq!(
+        pipe.lend().census(&mut table[1..], &mut cells, &mut sums).unwrap_err().number,
+        4
+    );
+    assert_eq!((cells, sums), ([[9; 5]; SUMS], [9; SUMS]));
+    assert_eq!(pipe.lend().census(&mut table, &mut cells, &mut sums), Ok(()));
+    let of_level = [
+        ([32, 72, 52, 12, 0], 0),
+        ([25, 65, 41, 6, 0], -5),
+        ([19, 52, 32, 4, 0], -5),
+        ([18, 40, 25, 7, 0], -4),
+        ([15, 29, 19, 7, 0], -2),
+    ];
+    for (level, (counts, sum)) in of_level.into_iter().enumerate() {
+        assert_eq!((cells[level], sums[level]), (counts, sum));
+    }
+    assert_eq!((&cells[5..], &sums[5..]), (&[[0; 5]; 28][..], &[0; 28][..]));
 }

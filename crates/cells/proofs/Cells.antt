@@ -18,9 +18,11 @@ use Rattle.laws.proofs.Verdicts.{and-both}
 use Rattle.laws.proofs.Tables.{length-listed, getD-listed}
 use Rattle.orbits.specs.Orbits.{Added}
 use Rattle.orbits.proofs.Orbits.{orbit-back, closed-orbit}
-use Rattle.cells.specs.Marked.{ExplicitLevel, failing, but, Gathered, Lacks, marksOf}
-use Rattle.cells.proofs.Explicit.{Present, level-valid, cell-orbit, orbit-cell}
-use Rattle.cells.proofs.Parts.{valid-two-way, cell-present}
+use Rattle.orbits.specs.Explicit.{ExplicitLevel, but}
+use Rattle.orbits.proofs.Explicit.{Present, level-valid}
+use Rattle.orbits.proofs.Cells.{cell-orbit, orbit-cell, cell-present}
+use Rattle.cells.specs.Marked.{failing, Gathered, Lacks, marksOf}
+use Rattle.cells.proofs.Parts.{valid-two-way}
 
 module _ (n N : ℕ) (table : List ℕ) (rows test : ℕ → Bool) where
   pub gathered-none : (within : ℕ → Bool) → ((d : ℕ) → within d ≡ false) → Gathered n N table rows test within 0

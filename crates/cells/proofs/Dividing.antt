@@ -18,9 +18,11 @@ use Rattle.maps.specs.MarkCells.{WouldBeMarked}
 use Rattle.laws.proofs.Verdicts.{and-both}
 use Rattle.orbits.specs.Orbits.{Closed, Added}
 use Rattle.orbits.proofs.Orbits.{closed-orbit}
-use Rattle.cells.specs.Marked.{ExplicitLevel, but, Lacks, undivided}
-use Rattle.cells.proofs.Explicit.{Present, level-valid, cell-orbit, orbit-cell}
-use Rattle.cells.proofs.Parts.{cell-back, part-back, part-cell, apart-two, two-apart}
+use Rattle.orbits.specs.Explicit.{ExplicitLevel, but}
+use Rattle.orbits.proofs.Explicit.{Present, level-valid}
+use Rattle.orbits.proofs.Cells.{cell-orbit, orbit-cell, cell-back}
+use Rattle.cells.specs.Marked.{Lacks, undivided}
+use Rattle.cells.proofs.Parts.{part-back, part-cell, apart-two, two-apart}
 
 neither : (x y : Bool) → (x || y) ≡ false → x ≡ false
 neither true y e = e

@@ -23,8 +23,8 @@ use Rattle.facts.proofs.Commuting.{commutes-kernel}
 use Rattle.facts.proofs.Checks.{There, sound-kernel}
 use Rattle.facts.proofs.AcceptedJobs.{accepted-table}
 use Rattle.facts.proofs.ExactJobs.{top-row-added}
-use Rattle.cells.specs.Marked.{ExplicitLevel}
-use Rattle.cells.proofs.Explicit.{level-valid}
+use Rattle.orbits.specs.Explicit.{ExplicitLevel}
+use Rattle.orbits.proofs.Explicit.{level-valid}
 use Rattle.cells.proofs.Parts.{marked-along}
 use Rattle.cells.proofs.Lent.{accepted-level}
 

@@ -18,7 +18,7 @@ use Rattle.answers.specs.Lent.{lentOf}
 use Rattle.answers.specs.Numbers.{refusalOf}
 use Rattle.answers.specs.declared.Refusal.{Refusal}
 use Rattle.answers.proofs.Refusals.{refusal-refuses}
-use Rattle.cells.specs.Marked.{ExplicitLevel}
+use Rattle.orbits.specs.Explicit.{ExplicitLevel}
 
 -- both tests, where each is known
 pub both-known : {both x y p q : Bool} → both ≡ (x && y) → x ≡ p → y ≡ q → both ≡ (p && q)

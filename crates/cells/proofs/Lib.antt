@@ -1,4 +1,3 @@
-mod Explicit
 pub mod Parts
 mod Cells
 mod Dividing

@@ -15,17 +15,13 @@ use Rattle.maps.specs.MarkCells.{WouldBeMarked, LeftUnmarked, Marked}
 use Rattle.laws.proofs.Verdicts.{and-both}
 use Rattle.facts.proofs.Removals.{crosses}
 use Rattle.orbits.proofs.Orbits.{orbit-join, orbit-present, orbit-back}
+use Rattle.orbits.proofs.Cells.{cell-join, cell-present, cell-back}
 
 -- the rows left are neither a_δ nor a_(δ+1)
 pub besides-both : (δ j : ℕ) → besides δ j ≡ true → (j ≡ δ → ⊥) × (j ≡ δ + 1 → ⊥)
 besides-both δ j u = let w = and-both (not (eqb j δ)) (not (eqb j (δ + 1))) u in (eqb-false j δ (not-true (eqb j δ) (w .0)), eqb-false j (δ + 1) (not-true (eqb j (δ + 1)) (w .1)))
 
 module _ (a : Involutions) (n δ : ℕ) where
-  -- what is reached from a dart of a cell is in it
-  pub cell-join : (x y z : ℕ) → Cell a n δ x y → Cell a n δ y z → Cell a n δ x z
-  cell-join x y _ c itself = c
-  cell-join x y _ c (onward d j e lj ne) = onward d j (cell-join x y d c e) lj ne
-
   -- a part lies in its cell
   pub part-cell : (x y : ℕ) → Part a n δ x y → Cell a n δ x y
   part-cell x _ here = itself
@@ -38,7 +34,7 @@ module _ (a : Involutions) (n δ : ℕ) where
 
   -- a removable cell is removable from each of its darts
   pub removable-along : (x y : ℕ) → Cell a n δ x y → Removable a n δ x → Removable a n δ y
-  removable-along x y c r l d e = r l d (cell-join x y d c e)
+  removable-along x y c r l d e = r l d (cell-join a n δ x y d c e)
 
 -- a valid map
 module _ (a : Involutions) (n : ℕ) (present : ℕ → Type 0) (v : Valid a n present) where
@@ -64,17 +60,6 @@ module _ (a : Involutions) (n δ : ℕ) (present : ℕ → Type 0) (v : Valid a 
   pub part-back : (x y : ℕ) → present x → Part a n δ x y → Part a n δ y x
   part-back = orbit-back a n (λ j d. besides δ j) present (valid-two-way a n present v (besides δ))
 
-  -- and a cell
-  pub cell-present : (x y : ℕ) → present x → Cell a n δ x y → present y
-  cell-present x y h c = piece-present a n present v x y h (cell-piece a n δ x y c)
-
-  pub cell-back : (x y : ℕ) → present x → Cell a n δ x y → Cell a n δ y x
-  cell-back x _ h itself = itself
-  cell-back x _ h (onward d j c lj ne) =
-      let e : a j (a j d) ≡ d = v .twice j d lj (cell-present x d h c) in
-      let back : Cell a n δ (a j d) (a j (a j d)) = onward (a j d) j itself lj ne in
-      cell-join a n δ (a j d) d x (rw e at back) (cell-back x d h c)
-
   module _ (lδ : δ < n) where
     -- in a removable cell a_(δ+1) commutes with every other row but a_δ
     commutes : (d j : ℕ) → present d → Removable a n δ d → j ≤ n → (j ≡ δ → ⊥) → (j ≡ δ + 1 → ⊥) → a (δ + 1) (a j d) ≡ a j (a (δ + 1) d)
@@ -95,7 +80,7 @@ module _ (a : Involutions) (n δ : ℕ) (present : ℕ → Type 0) (v : Valid a 
     part-across x _ h r (further d j p lj u) =
         let c = part-cell a n δ x d p in
         let w = besides-both δ j u in
-        let e = commutes d j (cell-present x d h c) (removable-along a n δ x d c r) lj (w .0) (w .1) in
+        let e = commutes d j (cell-present a n δ present v x d h c) (removable-along a n δ x d c r) lj (w .0) (w .1) in
         rw e (further (a (δ + 1) d) j (part-across x d h r p) lj u)
 
     -- a removable cell has at most two parts: that of a dart and that of its a_(δ+1)-neighbour
@@ -127,8 +112,8 @@ module _ (a : Involutions) (n δ : ℕ) (present : ℕ → Type 0) (v : Valid a 
     -- and then every dart of the cell and its a_(δ+1)-neighbour do
     pub two-apart : (x y : ℕ) → present x → Removable a n δ x → TwoParts a n δ x → Cell a n δ x y → Part a n δ y (a (δ + 1) y) → ⊥
     two-apart x y h r t c p =
-        let hy = cell-present x y h c in
-        let back = cell-back x y h c in
+        let hy = cell-present a n δ present v x y h c in
+        let back = cell-back a n δ present v x y h c in
         let ry = removable-along a n δ x y c r in
         let one = reach hy ry (t .one) (cell-join a n δ y x (t .one) back (t .one-in)) in
         let other = reach hy ry (t .other) (cell-join a n δ y x (t .other) back (t .other-in)) in
@@ -144,8 +129,8 @@ module _ (a : Involutions) (n δ : ℕ) (present : ℕ → Type 0) (v : Valid a 
     exactly-two x y h r c = (
       λ t. two-apart x y h r t c,
       λ f.
-          let hy = cell-present x y h c in
-          let back = cell-back x y h c in
+          let hy = cell-present a n δ present v x y h c in
+          let back = cell-back a n δ present v x y h c in
           let t = apart-two y hy (removable-along a n δ x y c r) f in
           record {
             one = t .one;
@@ -165,7 +150,7 @@ module _ (a : Involutions) (n δ : ℕ) (present : ℕ → Type 0) (v : Valid a 
     pub would-along : (x y : ℕ) → present x → Cell a n δ x y → WouldBeMarked a n δ x → WouldBeMarked a n δ y
     would-along x y h c k = record {
       removable = removable-along a n δ x y c (k .removable);
-      two = apart-two y (cell-present x y h c) (removable-along a n δ x y c (k .removable)) (two-apart x y h (k .removable) (k .two) c);
+      two = apart-two y (cell-present a n δ present v x y h c) (removable-along a n δ x y c (k .removable)) (two-apart x y h (k .removable) (k .two) c);
     }
 
   -- a cell is left unmarked as a whole
@@ -175,13 +160,13 @@ module _ (a : Involutions) (n δ : ℕ) (present : ℕ → Type 0) (v : Valid a 
       record {
         every = λ d q. s .every d (piece-join a n present v x y d p q);
         lowest = s .lowest;
-        in-cell = cell-join a n δ y x (s .lowest) (cell-back x y h c) (s .in-cell);
+        in-cell = cell-join a n δ y x (s .lowest) (cell-back a n δ present v x y h c) (s .in-cell);
         least = λ d q. s .least d (piece-join a n present v x y d p q);
       }
 
   -- so what is marked is whole cells
   pub marked-along : δ < n → (x y : ℕ) → present x → Cell a n δ x y → Marked a n δ x → Marked a n δ y
-  marked-along lδ x y h c m = (would-along lδ x y h c (m .0), λ s. m .1 (left-along y x (cell-present x y h c) (cell-back x y h c) s))
+  marked-along lδ x y h c m = (would-along lδ x y h c (m .0), λ s. m .1 (left-along y x (cell-present a n δ present v x y h c) (cell-back a n δ present v x y h c) s))
 
   -- no connected piece is marked as a whole
   pub piece-stays : (x : ℕ) → present x → ((y : ℕ) → Piece a n x y → Marked a n δ y) → ⊥

@@ -27,8 +27,8 @@ use Rattle.facts.proofs.Levels.{level-valid as level-on}
 use Rattle.facts.proofs.AcceptedJobs.{accepted-pyramid, accepted-table}
 use Rattle.orbits.proofs.Sets.{none-has}
 use Rattle.orbits.proofs.Decided.{orbit-set}
-use Rattle.cells.specs.Marked.{ExplicitLevel}
-use Rattle.cells.proofs.Explicit.{Present, level-valid}
+use Rattle.orbits.specs.Explicit.{ExplicitLevel}
+use Rattle.orbits.proofs.Explicit.{Present, level-valid}
 use Rattle.cells.proofs.Parts.{piece-present, piece-stays}
 use Rattle.cells.proofs.Lent.{accepted-level}
 use Rattle.cells.proofs.Kernels.{marked-added}

@@ -18,9 +18,11 @@ use Rattle.maps.specs.MarkCells.{WouldBeMarked, LeftUnmarked, Marked}
 use Rattle.laws.proofs.Verdicts.{and-both}
 use Rattle.orbits.specs.Orbits.{Closed, Added}
 use Rattle.orbits.proofs.Orbits.{closed-orbit}
-use Rattle.cells.specs.Marked.{ExplicitLevel, but, Gathered, Lacks}
-use Rattle.cells.proofs.Explicit.{Present, level-valid, cell-orbit, orbit-cell}
-use Rattle.cells.proofs.Parts.{cell-present, cell-back, cell-piece, piece-join, piece-present, piece-back, left-along}
+use Rattle.orbits.specs.Explicit.{ExplicitLevel, but}
+use Rattle.orbits.proofs.Explicit.{Present, level-valid}
+use Rattle.orbits.proofs.Cells.{cell-orbit, orbit-cell, cell-present, cell-back}
+use Rattle.cells.specs.Marked.{Gathered, Lacks}
+use Rattle.cells.proofs.Parts.{cell-piece, piece-join, piece-present, piece-back, left-along}
 
 -- `first` has the darts that would not be marked
 module _ (n N : ℕ) (table : List ℕ) (δ : ℕ) (first : ℕ → Bool) where

@@ -5,29 +5,18 @@ use mathlib.Core.Bool.{Bool, true, false, cond, _&&_, _||_, not}
 use mathlib.Core.List.{List}
 use Prim.Native.Nat.{ℕ, _+_, _<_}
 use lib.Dec.{eqb, ltb}
-use Rattle.maps.specs.Verdict.{accepted}
 use Rattle.maps.specs.Mark.{stay}
 use Rattle.maps.specs.Orbit.{Orbit}
 use Rattle.maps.specs.Table.{entry}
-use Rattle.maps.specs.Check.{checkMap}
 use Rattle.maps.specs.CheckBase.{present}
-use Rattle.answers.specs.Rows.{Rows}
 use Rattle.orbits.specs.Search.{has, Room}
 use Rattle.orbits.specs.Orbits.{Closed}
-
--- an explicit level that is accepted
-pub record ExplicitLevel (n N : ℕ) (table : List ℕ) : Type 0 where
-  pub rows : Rows n N table
-  pub accepts : checkMap (entry N table) n N (present N table) ≡ accepted
+use Rattle.orbits.specs.Explicit.{but}
 
 module _ (n N : ℕ) (table : List ℕ) (δ : ℕ) where
   -- Does the dart's own test fail? For δ = n−1 never; for δ ≤ n−2, it ends elsewhere by a_(δ+1) then a_(δ+2) than by a_(δ+2) then a_(δ+1).
   abbrev pub failing : ℕ → Bool
   failing d = ltb (δ + 1) n && (present N table d && not (eqb (entry N table (δ + 2) (entry N table (δ + 1) d)) (entry N table (δ + 1) (entry N table (δ + 2) d))))
-
--- the rows of a δ-cell: every one but a_δ
-abbrev pub but : ℕ → ℕ → Bool
-but δ j = not (eqb j δ)
 
 module _ (n N : ℕ) (table : List ℕ) where
   -- the set has the orbits, by some rows, of the darts below k that pass a test, and nothing else

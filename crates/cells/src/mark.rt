@@ -15,7 +15,8 @@ ghost use Rattle.maps.specs.MarkCells.{WouldBeMarked, Marked, CellsMarked, mark
 ghost use Rattle.answers.specs.Numbers.{verdictOf};
 ghost use Rattle.orbits.specs.Choices.{uses};
 ghost use Rattle.orbits.specs.Search.{has, Room};
-ghost use Rattle.cells.specs.Marked.{ExplicitLevel, failing, Gathered, Without, undivided, markOf, marksOf};
+ghost use Rattle.orbits.specs.Explicit.{ExplicitLevel};
+ghost use Rattle.cells.specs.Marked.{failing, Gathered, Without, undivided, markOf, marksOf};
 
 // "For δ = n−1 always. For δ ≤ n−2, each dart of the cell ends at the same place by a_(δ+1) then a_(δ+2) as by a_(δ+2) then a_(δ+1)": does dart d not?
 fn fails(n: Dim, darts: u16, table: &[u16], dimension: Dim, d: u16) -> bool

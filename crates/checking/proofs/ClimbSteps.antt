@@ -11,7 +11,7 @@ use Rattle.maps.specs.Verdict.{accepted, refused, scan}
 use Rattle.maps.specs.Mark.{isMark}
 use Rattle.maps.specs.Table.{entry, each}
 use Rattle.maps.specs.Folded.{marks, survives, level, levelTable}
-use Rattle.maps.specs.Check.{checkKernel, kernelAt, checkKernels}
+use Rattle.maps.specs.Check.{checkKernel, kernelAt}
 use Rattle.maps.specs.CheckPyramid.{leftBehind}
 use Rattle.laws.proofs.Verdicts.{scan-first, scan-more}
 use Rattle.laws.proofs.Tables.{length-explicit}
@@ -23,7 +23,7 @@ use Rattle.answers.proofs.Refusals.{refusal-refuses, refusal-keeps}
 use Rattle.kernels.specs.Strings.{kernelRow, Linked, Marks, Strung}
 use Rattle.kernels.specs.Ready.{Tested, removedFrom, stepLeaves}
 use Rattle.kernels.proofs.Strung.{in-kernel, first-same}
-use Rattle.checking.specs.Climb.{Base, climbs, climbLeaves}
+use Rattle.checking.specs.Climb.{Base, climbsTo, climbToLeaves}
 use Rattle.checking.proofs.ClimbVerdicts.{kernel-late, late-leaves}
 
 -- kernels 0 to l−1 are accepted and removed
@@ -41,13 +41,12 @@ module _ {n N h : ℕ} {rows lambda delta table : List ℕ} {l : ℕ} (c : Climb
   pub climb-long : length table ≡ length rows
   climb-long = ap length (c .holds) ∙ length-explicit (level (entry N rows) n N (marks h (each lambda) (each delta)) l) n N (survives (each lambda) l) ∙ sym (c .base .rows-long)
 
-  -- all kernels
-  pub climb-all : h ≤ l → (accepted ≡ climbs n N h rows lambda delta) × (table ≡ climbLeaves n N h rows lambda delta)
-  unfolding checkKernels leftBehind
-  climb-all f =
-      let top : l ≡ h = let k = c .low in omega arith in
-      let all : climbs n N h rows lambda delta ≡ accepted = rw top at (c .checked) in
-      (sym all, rw all (rw top at (c .holds)))
+  -- all kernels below a level
+  pub climb-all : (top : ℕ) → l ≡ top → (accepted ≡ climbsTo n N h rows lambda delta top) × (table ≡ climbToLeaves n N h rows lambda delta top)
+  unfolding leftBehind
+  climb-all top e =
+      let all : climbsTo n N h rows lambda delta top ≡ accepted = rw e at (c .checked) in
+      (sym all, rw all (rw e at (c .holds)))
 
   -- kernel l
   module _ (f : l < h) where
@@ -94,19 +93,19 @@ module _ {n N h : ℕ} {rows lambda delta table : List ℕ} {l : ℕ} (c : Climb
         rw (c .holds) (row-check (entry N rows) n N h (each lambda) (each delta) (b .dimension) (b .darts) (b .valid) (b .allowed) l (c .low) (c .checked) row marked-above (marks h (each lambda) (each delta) l) row-is)
 
     module _ {after : List ℕ} (leaves : after ≡ stepLeaves n N l row table) where
-      pub climb-refused : (r : Refusal) → refusalOf r ≡ checkKernel (entry N table) n N row l → (refusalOf r ≡ climbs n N h rows lambda delta) × (after ≡ climbLeaves n N h rows lambda delta)
-      unfolding checkKernels kernelAt
-      climb-refused r e =
+      pub climb-refused : (top : ℕ) → l < top → (r : Refusal) → refusalOf r ≡ checkKernel (entry N table) n N row l → (refusalOf r ≡ climbsTo n N h rows lambda delta top) × (after ≡ climbToLeaves n N h rows lambda delta top)
+      unfolding kernelAt
+      climb-refused top g r e =
           let v = kernelAt (entry N rows) n N h (each lambda) (each delta) in
           let x = refusal-refuses r in
           let here : refusalOf r ≡ v l = e ∙ kernel-is in
-          let all : scan h v ≡ refused (x .number) (x .level) (x .involution) (x .dart) = scan-first h v l (x .number) (x .level) (x .involution) (x .dart) f (c .checked) (sym here ∙ x .is) in
-          let same : v l ≡ scan h v = sym here ∙ x .is ∙ sym all in
+          let all : scan top v ≡ refused (x .number) (x .level) (x .involution) (x .dart) = scan-first top v l (x .number) (x .level) (x .involution) (x .dart) g (c .checked) (sym here ∙ x .is) in
+          let same : v l ≡ scan top v = sym here ∙ x .is ∙ sym all in
           let T = levelTable (entry N rows) n N h (each lambda) (each delta) in
           let late = kernel-late (level (entry N rows) n N (marks h (each lambda) (each delta)) l) n N (marks h (each lambda) (each delta) l) l in (
             x .is ∙ sym all,
-            leaves ∙ sym (refusal-keeps r (checkKernel (entry N table) n N row l) (removedFrom n N row table) table e) ∙ c .holds ∙ refusal-keeps r (v l) (T h) (T l) here ∙ sym (late-leaves (T h) T rows l (v l) late)
-                ∙ ap (leftBehind (T h) T rows) same,
+            leaves ∙ sym (refusal-keeps r (checkKernel (entry N table) n N row l) (removedFrom n N row table) table e) ∙ c .holds ∙ refusal-keeps r (v l) (T top) (T l) here ∙ sym (late-leaves (T top) T rows l (v l) late)
+                ∙ ap (leftBehind (T top) T rows) same,
           )
 
       pub climb-next : accepted ≡ checkKernel (entry N table) n N row l → Climbed n N h rows lambda delta after (l + 1)

@@ -1,6 +1,6 @@
-mod ClimbVerdicts
+pub mod ClimbVerdicts
 mod ClimbSteps
 mod ClimbCheck
-mod Rows
+pub mod Rows
 mod AddKernels
 mod AddCheck

@@ -4,12 +4,12 @@ use mathlib.Core.Bool.{true, false, _&&_}
 use mathlib.Core.List.{List}
 use Prim.Native.Nat.{ℕ, suc, _*_, _<_, _≤_}
 use lib.ListN.{length}
-use Rattle.maps.specs.Verdict.{Verdict, _then_}
+use Rattle.maps.specs.Verdict.{Verdict, _then_, scan}
 use Rattle.maps.specs.Sizes.{hasLength}
 use Rattle.maps.specs.Map.{Valid}
 use Rattle.maps.specs.Table.{entry, each}
 use Rattle.maps.specs.Folded.{refusedMarks, levelTable}
-use Rattle.maps.specs.Check.{checkMap, check8, checkKernels}
+use Rattle.maps.specs.Check.{checkMap, check8, kernelAt, checkKernels}
 use Rattle.maps.specs.CheckPyramid.{leftBehind}
 use Rattle.answers.specs.Lent.{lentOf}
 
@@ -43,3 +43,11 @@ climbs n N h rows lambda delta = checkKernels (entry N rows) n N h (each lambda)
 abbrev pub climbLeaves : ℕ → ℕ → ℕ → List ℕ → List ℕ → List ℕ → List ℕ
 climbLeaves n N h rows lambda delta =
     leftBehind (levelTable (entry N rows) n N h (each lambda) (each delta) h) (levelTable (entry N rows) n N h (each lambda) (each delta)) rows (climbs n N h rows lambda delta)
+
+-- the same of kernels 0 to l−1 alone
+abbrev pub climbsTo : ℕ → ℕ → ℕ → List ℕ → List ℕ → List ℕ → ℕ → Verdict
+climbsTo n N h rows lambda delta l = scan l (kernelAt (entry N rows) n N h (each lambda) (each delta))
+
+abbrev pub climbToLeaves : ℕ → ℕ → ℕ → List ℕ → List ℕ → List ℕ → ℕ → List ℕ
+climbToLeaves n N h rows lambda delta l =
+    leftBehind (levelTable (entry N rows) n N h (each lambda) (each delta) l) (levelTable (entry N rows) n N h (each lambda) (each delta)) rows (climbsTo n N h rows lambda delta l)

@@ -1,11 +1,12 @@
-// Kernels climbed one after the other, each on its own level. The strings of the darts by kernel, 8,704 bytes, are all the local memory. Assumes nothing.
+// Kernels climbed one after the other, each on its own level. The strings of the darts by kernel, 8,704 bytes, are all the local memory.
 use answers::Check;
 use answers::Dim;
 use answers::Level;
 ghost use mathlib.Core.Path.{_≡_};
+ghost use Prim.Native.Nat.{_≤_};
 ghost use lib.ListN.{length};
 ghost use Rattle.answers.specs.Numbers.{verdictOf};
-ghost use Rattle.checking.specs.Climb.{Base, climbs, climbLeaves};
+ghost use Rattle.checking.specs.Climb.{Base, climbs, climbLeaves, climbsTo, climbToLeaves};
 
 // The base, copied into the lent table.
 fn copy(rows: &[u16], table: &mut [u16])
@@ -18,7 +19,7 @@ fn copy(rows: &[u16], table: &mut [u16])
 }
 
 // Kernels 0 to h−1, in rising order, from the base.
-pub(crate) fn rise(
+pub fn rise(
     n: Dim,
     darts: usize,
     h: Level,
@@ -31,11 +32,29 @@ pub(crate) fn rise(
     ensures { λ r. ⌜ verdictOf r ≡ climbs (n .0) darts (h .0) (now (rows .entry)) (now (lambda .entry)) (now (delta .entry)) ⌝ }
     ensures { λ _. ⌜ now (table .exit) ≡ climbLeaves (n .0) darts (h .0) (now (rows .entry)) (now (lambda .entry)) (now (delta .entry)) ⌝ }
 {
+    climb_to(n, darts, h, h, rows, lambda, delta, table)
+}
+
+// Kernels 0 to level−1 of a pyramid of height h, in rising order, from the base.
+pub fn climb_to(
+    n: Dim,
+    darts: usize,
+    h: Level,
+    level: Level,
+    rows: &[u16],
+    lambda: &[u8],
+    delta: &[u8],
+    table: &mut [u16],
+) -> Check
+    requires { ⌜ Base (n .0) darts (h .0) (now rows) (now lambda) (now delta) × (level .0 ≤ h .0) × (length (now table) ≡ length (now rows)) ⌝ }
+    ensures { λ r. ⌜ verdictOf r ≡ climbsTo (n .0) darts (h .0) (now (rows .entry)) (now (lambda .entry)) (now (delta .entry)) (level .0) ⌝ }
+    ensures { λ _. ⌜ now (table .exit) ≡ climbToLeaves (n .0) darts (h .0) (now (rows .entry)) (now (lambda .entry)) (now (delta .entry)) (level .0) ⌝ }
+{
     let mut head = [65535u16; 256];
     let mut next = [0u16; 4096];
     kernels::link(darts, lambda, &mut head, &mut next);
     copy(rows, table);
-    let top = h.0;
+    let top = level.0;
     for l in 0..top {
         let first = head[l as usize];
         if let Check::Refused(r) = kernels::step(

@@ -30,4 +30,5 @@ pub mod MarkCells
 pub mod Record
 pub mod Write
 pub mod Decimation
+pub mod Census
 pub mod Accepted

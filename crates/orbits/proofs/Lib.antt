@@ -3,3 +3,5 @@ pub mod Choices
 pub mod Sets
 mod Searches
 pub mod Decided
+pub mod Cells
+pub mod Explicit

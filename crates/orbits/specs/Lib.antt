@@ -1,3 +1,4 @@
 pub mod Choices
 pub mod Search
 pub mod Orbits
+pub mod Explicit

@@ -2,6 +2,7 @@
 use mathlib.Core.Path.{refl, sym, _∙_}
 use contract.Lifetimes.{Lfts}
 use denote.Ref.{now}
+use Rattle.maps.specs.Census.{censusLent}
 use Rattle.zompelgors.proofs.zg_version.Reads as version
 use Rattle.zompelgors.proofs.zg_check_base.Reads as check-base
 use Rattle.zompelgors.proofs.zg_check.Reads as check
@@ -16,6 +17,8 @@ use Rattle.zompelgors.proofs.zg_mark_cells.Reads as mark-cells
 use Rattle.zompelgors.proofs.zg_take.Reads as take
 use Rattle.zompelgors.proofs.zg_write.Reads as write
 use Rattle.zompelgors.proofs.zg_decimation.Reads as decimation
+use Rattle.zompelgors.proofs.zg_census.Reads as census
+use Rattle.counting.proofs.OneCensus.{put-leaves-one}
 use Rattle.outcomes.proofs.One.{OneOutcome, one-outcome, nothing, three, same-three, four, same-four, pair, same-pair}
 use Rattle.outcomes.proofs.Cells.{marking-same}
 
@@ -69,3 +72,9 @@ zg-write-one κs = one-outcome _ _ _ (λ a r. r) (λ r. r) (λ a r. refl) _ _ (�
 -- the table
 pub zg-decimation-one : (κs : Lfts 4) → OneOutcome (decimation.Learnt κs) (λ r. r) (λ s. now (s .1 .1 .1 .1 .1 .1 .0))
 zg-decimation-one κs = one-outcome _ _ _ (λ a r. r) (λ r. r) (λ a r. refl) _ _ (λ a r s c. c)
+
+-- the table, the counts and the sums, of which the contract says what they count
+pub zg-census-one : (κs : Lfts 6) → OneOutcome (census.Learnt κs) (λ r. r) (λ s. three (now (s .1 .1 .1 .1 .1 .1 .0)) (now (s .1 .1 .1 .1 .1 .1 .1 .0)) (now (s .1 .1 .1 .1 .1 .1 .1 .1 .0)))
+zg-census-one κs a r r′ s s′ c c′ =
+    let w = put-leaves-one (a .0) (a .1 .0) (a .1 .1 .0) (now (a .1 .1 .1 .0)) (now (a .1 .1 .1 .1 .0)) (now (a .1 .1 .1 .1 .1 .0)) (censusLent (a .0) (a .1 .0) (a .1 .1 .0) (now (a .1 .1 .1 .0)) (now (a .1 .1 .1 .1 .0)) (now (a .1 .1 .1 .1 .1 .0)) (now (a .1 .1 .1 .1 .1 .1 .0)) (now (a .1 .1 .1 .1 .1 .1 .1 .0)) (now (a .1 .1 .1 .1 .1 .1 .1 .1 .0))) (now (a .1 .1 .1 .1 .1 .1 .1 .0)) (now (a .1 .1 .1 .1 .1 .1 .1 .1 .0)) _ _ _ _ (c .1 .1) (c′ .1 .1) in
+    (c .0 ∙ sym (c′ .0), same-three (c .1 .0 ∙ sym (c′ .1 .0)) (w .0) (w .1))

@@ -2,6 +2,8 @@
 use mathlib.Core.Path.{refl, ap, ap₂, sym, _∙_}
 use contract.Lifetimes.{Lfts}
 use denote.Ref.{now}
+use Rattle.maps.specs.CheckPyramid.{checkLent}
+use Rattle.maps.specs.Census.{censusLent}
 use Rattle.answers.specs.Numbers.{verdictOf, said}
 use Rattle.questions.specs.Answers.{valueOf}
 use Rattle.records.specs.Answers.{takenOf}
@@ -36,6 +38,9 @@ use Rattle.records.proofs.unpack.Reads as unpack
 use Rattle.taking.proofs.take.Reads as take
 use Rattle.writing.proofs.write.Reads as write
 use Rattle.shrinking.proofs.decimation.Reads as decimation
+use Rattle.counting.proofs.census.Reads as census
+use Rattle.counting.proofs.census_into.Reads as census-into
+use Rattle.counting.proofs.OneCensus.{leaves-one, put-leaves-one}
 use Rattle.outcomes.proofs.One.{OneOutcome, one-outcome, nothing, three, same-three, four, same-four, pair, same-pair}
 use Rattle.outcomes.proofs.Answers.{checkFrom, check-told, readingFrom, reading-told, valuesOfLink, linkFrom, link-told, valuesOfTotal, totalFrom, total-told, valuesOfSurvivors, survivorsFrom, survivors-told, valuesOfAdded, addedFrom, added-told, takenFrom, taken-told, writtenFrom, written-told, factorFrom, factor-told, numbersFrom, numbers-told}
 use Rattle.outcomes.proofs.Cells.{marking-same}
@@ -108,6 +113,18 @@ write-one κs = one-outcome _ _ _ (λ a. writtenOf) writtenFrom (λ a. written-t
 -- the table
 pub decimation-one : (κs : Lfts 4) → OneOutcome (decimation.Learnt κs) (λ r. r) (λ s. now (s .1 .1 .1 .1 .1 .1 .0))
 decimation-one κs = one-outcome _ _ _ (λ a. factorOf) factorFrom (λ a. factor-told) _ _ (λ a r s c. c)
+
+-- the table, the counts and the sums, in arrays
+pub census-one : (κs : Lfts 6) → OneOutcome (census.Learnt κs) (λ r. r) (λ s. three (now (s .1 .1 .1 .1 .1 .1 .0)) (now (s .1 .1 .1 .1 .1 .1 .1 .0)) (now (s .1 .1 .1 .1 .1 .1 .1 .1 .0)))
+census-one κs a r r′ s s′ c c′ =
+    let w = leaves-one (a .0 .0) (a .1 .0) (a .1 .1 .0 .0) (now (a .1 .1 .1 .0)) (now (a .1 .1 .1 .1 .0)) (now (a .1 .1 .1 .1 .1 .0)) (checkLent (a .0 .0) (a .1 .0) (a .1 .1 .0 .0) (now (a .1 .1 .1 .0)) (now (a .1 .1 .1 .1 .0)) (now (a .1 .1 .1 .1 .1 .0)) (now (a .1 .1 .1 .1 .1 .1 .0))) (now (a .1 .1 .1 .1 .1 .1 .1 .0)) (now (a .1 .1 .1 .1 .1 .1 .1 .1 .0)) _ _ _ _ (c .1 .1) (c′ .1 .1) in
+    (sym (check-told r) ∙ ap checkFrom (c .0 ∙ sym (c′ .0)) ∙ check-told r′, same-three (c .1 .0 ∙ sym (c′ .1 .0)) (w .0) (w .1))
+
+-- and in slices
+pub census-into-one : (κs : Lfts 6) → OneOutcome (census-into.Learnt κs) (λ r. r) (λ s. three (now (s .1 .1 .1 .1 .1 .1 .0)) (now (s .1 .1 .1 .1 .1 .1 .1 .0)) (now (s .1 .1 .1 .1 .1 .1 .1 .1 .0)))
+census-into-one κs a r r′ s s′ c c′ =
+    let w = put-leaves-one (a .0 .0) (a .1 .0) (a .1 .1 .0 .0) (now (a .1 .1 .1 .0)) (now (a .1 .1 .1 .1 .0)) (now (a .1 .1 .1 .1 .1 .0)) (censusLent (a .0 .0) (a .1 .0) (a .1 .1 .0 .0) (now (a .1 .1 .1 .0)) (now (a .1 .1 .1 .1 .0)) (now (a .1 .1 .1 .1 .1 .0)) (now (a .1 .1 .1 .1 .1 .1 .0)) (now (a .1 .1 .1 .1 .1 .1 .1 .0)) (now (a .1 .1 .1 .1 .1 .1 .1 .1 .0))) (now (a .1 .1 .1 .1 .1 .1 .1 .0)) (now (a .1 .1 .1 .1 .1 .1 .1 .1 .0)) _ _ _ _ (c .1 .1) (c′ .1 .1) in
+    (sym (check-told r) ∙ ap checkFrom (c .0 ∙ sym (c′ .0)) ∙ check-told r′, same-three (c .1 .0 ∙ sym (c′ .1 .0)) (w .0) (w .1))
 
 -- what jobs share
 pub sizes-one : (κs : Lfts 0) → OneOutcome (sizes.Learnt κs) (λ r. r) nothing

@@ -17,11 +17,11 @@ module _ {A R S T L : Type 0} (contract : A → R → S → Type 0) (returns : R
       let other = says a r′ s′ c′ in
       (sym (tells a (returns r)) ∙ ap back (one .0 ∙ sym (other .0)) ∙ tells a (returns r′), one .1 ∙ sym (other .1))
 
--- three slices that are written
-abbrev pub three : List ℕ → List ℕ → List ℕ → List ℕ × List ℕ × List ℕ
+-- three that are written, slices or arrays
+abbrev pub three : {A B C : Type 0} → A → B → C → A × B × C
 three x y z = (x, y, z)
 
-pub same-three : {x x′ y y′ z z′ : List ℕ} → x ≡ x′ → y ≡ y′ → z ≡ z′ → three x y z ≡ three x′ y′ z′
+pub same-three : {A B C : Type 0} {x x′ : A} {y y′ : B} {z z′ : C} → x ≡ x′ → y ≡ y′ → z ≡ z′ → three x y z ≡ three x′ y′ z′
 same-three p q t = λ i. three (p i) (q i) (t i)
 
 -- four slices that are written

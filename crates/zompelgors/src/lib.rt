@@ -3,6 +3,7 @@ use answers::Check;
 use answers::Dim;
 use answers::Level;
 use answers::Refusal;
+use counting::census_into;
 ghost use mathlib.Core.Path.{_≡_};
 ghost use Prim.Native.Nat.{_*_, _≤_};
 ghost use mathlib.Core.Bool.{cond};
@@ -20,6 +21,7 @@ ghost use Rattle.maps.specs.MarkCells.{markLent, MarkLeaves};
 ghost use Rattle.maps.specs.Record.{takeRows, takeLambda, takeDelta, takeTable};
 ghost use Rattle.maps.specs.Write.{writeTable, writeLeaves};
 ghost use Rattle.maps.specs.Decimation.{decimationTable};
+ghost use Rattle.maps.specs.Census.{censusLent, censusTable, CensusPutLeaves};
 ghost use Rattle.answers.specs.Numbers.{refusalOf, verdictOf};
 ghost use Rattle.checking.specs.Answers.{addedOf, heightOf};
 ghost use Rattle.questions.specs.Answers.{valueOf};
@@ -369,12 +371,12 @@ fn factor_as(answer: shrinking::Factor) -> ZgFactor
     }
 }
 
-// The version of this interface: 5.0.0.
+// The version of this interface: 5.1.0.
 #[no_mangle]
 pub extern "C" fn zg_version() -> u32
-    ensures { λ r. ⌜ r ≡ versionFor 5 0 0 ⌝ }
+    ensures { λ r. ⌜ r ≡ versionFor 5 1 0 ⌝ }
 {
-    327680
+    327936
 }
 
 // Checks a base.
@@ -645,5 +647,35 @@ pub extern "C" fn zg_decimation(
         delta,
         table,
         Level(level),
+    ))
+}
+
+// A census of an accepted pyramid, into 33 rows of five counts and 33 sums; the table is left as the check leaves it.
+#[no_mangle]
+pub extern "C" fn zg_census(
+    n: u8,
+    darts: u16,
+    h: u8,
+    rows: &[u16],
+    lambda: &[u8],
+    delta: &[u8],
+    table: &mut [u16],
+    cells: &mut [u16],
+    sums: &mut [i32],
+) -> ZgRefusal
+    ensures { λ r. ⌜ r ≡ refusalFor (censusLent n darts h (now (rows .entry)) (now (lambda .entry)) (now (delta .entry)) (now (table .entry)) (now (cells .entry)) (now (sums .entry))) ⌝ }
+    ensures { λ _. ⌜ now (table .exit) ≡ censusTable n darts h (now (rows .entry)) (now (lambda .entry)) (now (delta .entry)) (now (table .entry)) (now (cells .entry)) (now (sums .entry)) ⌝ }
+    ensures { λ _. ⌜ CensusPutLeaves n darts h (now (rows .entry)) (now (lambda .entry)) (now (delta .entry)) (censusLent n darts h (now (rows .entry)) (now (lambda .entry)) (now (delta .entry)) (now (table .entry)) (now (cells .entry)) (now (sums .entry))) (now (cells .entry)) (now (sums .entry)) (now (cells .exit)) (now (sums .exit)) ⌝ }
+{
+    checked(census_into(
+        Dim(n),
+        darts,
+        Level(h),
+        rows,
+        lambda,
+        delta,
+        table,
+        cells,
+        sums,
     ))
 }

@@ -12,8 +12,8 @@ use Rattle.maps.specs.CheckBase.{present}
 use Rattle.laws.proofs.Verdicts.{and-both, and-rest}
 use Rattle.answers.proofs.Rows.{rows-entry}
 use Rattle.orbits.specs.Search.{has, Room}
+use Rattle.orbits.proofs.Explicit.{level-ready, level-added}
 use Rattle.cells.specs.Marked.{Gathered}
-use Rattle.cells.proofs.Explicit.{level-ready, level-added}
 use Rattle.cells.proofs.Cells.{gathered-none, gathered-pass, gathered-add}
 use Rattle.cells.proofs.mark.break_pieces.Statement.{statement}
 use Rattle.cells.proofs.mark.break_pieces.Tie as tie

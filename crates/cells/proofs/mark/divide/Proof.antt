@@ -13,8 +13,8 @@ use Rattle.answers.proofs.Rows.{rows-entry}
 use Rattle.orbits.specs.Search.{has, Room}
 use Rattle.orbits.proofs.Sets.{none-has}
 use Rattle.orbits.proofs.Decided.{none}
-use Rattle.cells.specs.Marked.{but}
-use Rattle.cells.proofs.Explicit.{Present, level-valid, level-ready, level-added}
+use Rattle.orbits.specs.Explicit.{but}
+use Rattle.orbits.proofs.Explicit.{Present, level-valid, level-ready, level-added}
 use Rattle.cells.proofs.Dividing.{Dividing, undivided-tells, dividing-none, dividing-pass, dividing-two, dividing-one, divided}
 use Rattle.cells.proofs.mark.divide.Statement.{statement}
 use Rattle.cells.proofs.mark.divide.Tie as tie

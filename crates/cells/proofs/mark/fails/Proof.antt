@@ -7,7 +7,7 @@ use denote.Ref.{now}
 use borrow.Author.Tests.{lt-ltb, le-ltb, not-true, not-false}
 use Rattle.maps.specs.Table.{entry}
 use Rattle.answers.proofs.Rows.{rows-entry}
-use Rattle.cells.proofs.Explicit.{level-valid}
+use Rattle.orbits.proofs.Explicit.{level-valid}
 use borrow.Author.Needs.{needs}
 use Rattle.cells.proofs.mark.fails.Statement.{statement}
 use Rattle.cells.proofs.mark.fails.Tie as tie

@@ -16,8 +16,9 @@ use Rattle.orbits.specs.Choices.{uses}
 use Rattle.orbits.specs.Search.{has, Room}
 use Rattle.orbits.specs.Orbits.{Closed}
 use Rattle.orbits.proofs.Sets.{none-has}
-use Rattle.cells.specs.Marked.{but, Lacks}
-use Rattle.cells.proofs.Explicit.{Present, level-ready, level-added}
+use Rattle.orbits.specs.Explicit.{but}
+use Rattle.orbits.proofs.Explicit.{Present, level-ready, level-added}
+use Rattle.cells.specs.Marked.{Lacks}
 use Rattle.cells.proofs.Sparing.{Sparing, sparing-none, sparing-pass, sparing-add, spared}
 use Rattle.cells.proofs.mark.spare.Statement.{statement}
 use Rattle.cells.proofs.mark.spare.Tie as tie

@@ -8,8 +8,9 @@ use denote.Ref.{now}
 use borrow.Author.Needs.{needs}
 use borrow.Author.Tests.{not-false}
 use Rattle.orbits.specs.Search.{has, Room}
-use Rattle.cells.specs.Marked.{failing, but, Gathered}
-use Rattle.cells.proofs.Explicit.{level-ready, level-added}
+use Rattle.orbits.specs.Explicit.{but}
+use Rattle.orbits.proofs.Explicit.{level-ready, level-added}
+use Rattle.cells.specs.Marked.{failing, Gathered}
 use Rattle.cells.proofs.Cells.{fails-tells, gathered-none, gathered-pass, gathered-add, spoilt}
 use Rattle.cells.proofs.mark.spoil.Statement.{statement}
 use Rattle.cells.proofs.mark.spoil.Tie as tie

@@ -9,7 +9,7 @@ use borrow.Author.Tests.{not-true, not-false}
 use Rattle.maps.specs.Table.{entry}
 use Rattle.maps.specs.CheckBase.{present}
 use Rattle.answers.proofs.Rows.{rows-entry}
-use Rattle.cells.proofs.Explicit.{level-valid}
+use Rattle.orbits.proofs.Explicit.{level-valid}
 use borrow.Author.Needs.{needs}
 use Rattle.cells.proofs.mark.undecided.Statement.{statement}
 use Rattle.cells.proofs.mark.undecided.Tie as tie

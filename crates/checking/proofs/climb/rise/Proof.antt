@@ -1,106 +1,16 @@
--- `checking::climb::rise` meets its contract. The invariant: the kernels passed are accepted, and the table holds the level that they leave. The measure is the kernels left. Assumes nothing.
-use mathlib.Core.Path.{refl, sym, _∙_}
-use Prim.Native.Nat.{_-_}
-use lib.ListN.{getD-replicate}
+-- `checking::climb::rise` meets its contract: all kernels are those below the height. Assumes nothing.
+use native.Mathlib.Omega.{arith}
 use borrow.Author.Needs.{needs}
-use Rattle.answers.proofs.Refusals.{told}
-use Rattle.checking.proofs.ClimbSteps.{Climbed, climb-none, climb-long, climb-tested, climb-strung, climb-refused, climb-next, climb-all}
+use Rattle.maps.specs.Check.{checkKernels}
 use Rattle.checking.proofs.climb.rise.Statement.{statement}
 use Rattle.checking.proofs.climb.rise.Tie as tie
 
-abbrev Inv-loop : tie.InvT-loop
-Inv-loop n darts rows lambda delta table₀ head next top l₀ table l = Climbed (n .0) darts top rows lambda delta table l
+climb-to-requires : tie.Need-climb-to-requires
+climb-to-requires c κs = let p = c .before .before .before .before .before .pre in (p .0, omega arith, p .1)
 
-abbrev μ-loop : tie.MeasureT-loop
-μ-loop n darts rows lambda delta table₀ head next top l₀ table l = top - l
-
--- the entry, from the end of linking; the end of linking, from the head of the loop; and the turn, from one kernel's step
-abbrev start : tie.After-link Inv-loop μ-loop → tie.Start Inv-loop μ-loop
-start c = c .before .before .before .before .before .before .before
-
-abbrev linked : tie.At-loop Inv-loop μ-loop → tie.After-link Inv-loop μ-loop
-linked c = c .before .before .before .before .before
-
-abbrev turn : tie.After-step Inv-loop μ-loop → tie.In-loop Inv-loop μ-loop
-turn c = c .before .before .before
-
-link-requires : tie.Need-link-requires Inv-loop μ-loop
-link-requires c κs = let b = c .before .before .before .before .before .before .pre .0 in (b .darts, b .lambda-long, λ k lk. getD-replicate 256 k 65535 0 lk, refl, refl)
-
-copy-requires : tie.Need-copy-requires Inv-loop μ-loop
-copy-requires c κs = start (c .before) .pre .1
-
-loop-holds : tie.Need-loop-holds Inv-loop μ-loop
-loop-holds c = climb-none (start (c .before .before .before .before) .pre .0) (c .before .before .copy .ensures)
-
-cast-first : tie.Need-cast-first Inv-loop μ-loop
-cast-first c = search needs
-
-mul-first : tie.Need-mul-first Inv-loop μ-loop
-mul-first c = search needs
-
-array-read-first : tie.Need-array-read-first Inv-loop μ-loop
-array-read-first c = search needs
-
-step-requires : tie.Need-step-requires Inv-loop μ-loop
-step-requires c κs =
-    let i = c .before .before in
-    let v = i .before .loop .inv in
-    let t = i .loop-test .taken in
-    (climb-tested v t, climb-strung v t (linked (i .before) .link .ensures) refl)
-
-enum-known-r : tie.Need-enum-known-r Inv-loop μ-loop
-enum-known-r c = search needs
-
-same-length : tie.Need-same-length Inv-loop μ-loop
-same-length c = let s : tie.After-step Inv-loop μ-loop = c .before .before .before .before .before in let h = turn s .before in c .before .before .before .before .table2 .given ∙ climb-long (h .loop .inv) ∙ sym (start (linked h) .pre .1)
-
-returns : tie.Need-returns Inv-loop μ-loop
-returns c =
-    let s : tie.After-step Inv-loop μ-loop = c .before .before .before .before .before in
-    let i = turn s in
-    climb-refused (i .before .loop .inv) (i .loop-test .taken) (s .step .ensures .1) (c .before .r .given .0 .0) (told (s .step .ensures .0) (c .before .r .given .1))
-
-enum-told : tie.Need-enum-told Inv-loop μ-loop
-enum-told c = search needs
-
-add-l : tie.Need-add-l Inv-loop μ-loop
-add-l c = search needs
-
-loop-less : tie.Need-loop-less Inv-loop μ-loop
-loop-less c = search needs
-
-loop-again : tie.Need-loop-again Inv-loop μ-loop
-loop-again c =
-    let s : tie.After-step Inv-loop μ-loop = c .before .before .before .before in
-    let i = turn s in
-    climb-next (i .before .loop .inv) (i .loop-test .taken) (s .step .ensures .1) (told (s .step .ensures .0) (c .enum-told .given .1))
-
-same-length-2 : tie.Need-same-length-2 Inv-loop μ-loop
-same-length-2 c = climb-long (c .before .loop .inv) ∙ sym (start (linked (c .before)) .pre .1)
-
-returns-2 : tie.Need-returns-2 Inv-loop μ-loop
-returns-2 c = climb-all (c .before .loop .inv) (c .loop-test .left)
+returns : tie.Need-returns
+unfolding checkKernels
+returns c = c .before .before .climb-to .ensures
 
 pub rise-spec : {M : Type 1} → statement M
-rise-spec =
-    tie.close
-    (tie.spec
-    Inv-loop
-    μ-loop
-    link-requires
-    copy-requires
-    loop-holds
-    cast-first
-    mul-first
-    array-read-first
-    step-requires
-    enum-known-r
-    same-length
-    returns
-    enum-told
-    add-l
-    loop-less
-    loop-again
-    same-length-2
-    returns-2)
+rise-spec = tie.close (tie.spec climb-to-requires (λ c. search needs) returns)

@@ -6,33 +6,22 @@ use mathlib.Core.List.{List}
 use Prim.Native.Nat.{ℕ, _≤_, _<_}
 use native.Mathlib.Omega.{arith}
 use lib.ListN.{length, replicate, List·getD-eq-default}
-use lib.Dec.{eqb, ltb}
-use borrow.Author.Tests.{eqb-false, ne-eqb, not-true, ltb-true, ltb-false}
-use Rattle.maps.specs.Map.{Involutions, Valid}
-use Rattle.maps.specs.Cell.{Cell, itself, onward}
+use lib.Dec.{ltb}
+use borrow.Author.Tests.{ltb-true, ltb-false}
+use Rattle.maps.specs.Map.{Valid}
 use Rattle.maps.specs.Orbit.{Orbit, here, further}
 use Rattle.maps.specs.Table.{entry}
 use Rattle.maps.specs.CheckBase.{present}
 use Rattle.facts.proofs.Checks.{There, map-sound}
 use Rattle.orbits.specs.Choices.{uses, chosen}
 use Rattle.orbits.specs.Search.{has, Room}
 use Rattle.orbits.specs.Orbits.{Closed, Ready, Added}
 use Rattle.orbits.proofs.Choices.{same-choice}
-use Rattle.cells.specs.Marked.{ExplicitLevel, but}
+use Rattle.orbits.specs.Explicit.{ExplicitLevel}
 
 -- the darts present
 abbrev pub Present : ℕ → ℕ → List ℕ → ℕ → Type 0
 Present n N table = There (entry N table) n N (present N table)
-
--- a cell is the orbit by every row but one
-module _ (a : Involutions) (n δ : ℕ) where
-  pub cell-orbit : (x y : ℕ) → Cell a n δ x y → Orbit a n (λ j d. but δ j) x y
-  cell-orbit x _ itself = here
-  cell-orbit x _ (onward d j c lj ne) = further d j (cell-orbit x d c) lj (rw (ne-eqb j δ ne))
-
-  pub orbit-cell : (x y : ℕ) → Orbit a n (λ j d. but δ j) x y → Cell a n δ x y
-  orbit-cell x _ here = itself
-  orbit-cell x _ (further d j o lj u) = onward d j (orbit-cell x d o) lj (eqb-false j δ (not-true (eqb j δ) u))
 
 -- what is in a stored set has its place
 has-low : (list : List Bool) (d : ℕ) → has list d ≡ true → d < length list

@@ -1,0 +1,143 @@
+// Takes a record from standard input and prints its census: for each level its number, its cells of each dimension, and their alternating sum.
+// It keeps 156,110 bytes: the input (65,536), rows and a table (40,960 each), Λ and Δ (4,096 each), counts (330) and sums (132). Assumes the contracts of read and write.
+use answers::Check;
+use answers::Dim;
+use answers::Level;
+use answers::Refusal;
+use records::Taken;
+ghost use mathlib.Core.Path.{_≡_};
+ghost use Prim.Native.Nat.{_≤_};
+ghost use lib.ListN.{length};
+ghost use lib.IntN.{natAbs};
+
+// A number behind a space.
+fn next(number: u64) {
+    io::write_all(1, b" ");
+    io::print_decimal(1, number);
+}
+
+// How far a number is from zero.
+fn distance(number: i32) -> u64
+    ensures { λ r. ⌜ r ≡ natAbs number ⌝ }
+{
+    let wide = number as i64;
+    if wide < 0 {
+        return (0 - wide) as u64;
+    }
+    wide as u64
+}
+
+// A number behind a space, which may be below zero.
+fn next_signed(number: i32) {
+    io::write_all(1, b" ");
+    if number < 0 {
+        io::write_all(1, b"-");
+    }
+    io::print_decimal(1, distance(number));
+}
+
+// A refusal prints one line: the word refused, then number, level, involution and dart.
+fn refuse(refusal: Refusal) {
+    let r = answers::numbers_of(refusal);
+    io::write_all(1, b"refused");
+    next(r.number as u64);
+    next(r.level as u64);
+    next(r.involution as u64);
+    next(r.dart as u64);
+    io::write_all(1, b"\n");
+}
+
+// Number, the n+1 counts, sum.
+fn level_line(n: Dim, level: Level, counts: [u16; 5], sum: i32)
+    requires { ⌜ n .0 ≤ 4 ⌝ }
+{
+    io::print_decimal(1, level.0 as u64);
+    let last = n.0;
+    for i in 0..=last {
+        next(counts[i as usize] as u64);
+    }
+    next_signed(sum);
+    io::write_all(1, b"\n");
+}
+
+fn all_levels(n: Dim, h: Level, cells: [[u16; 5]; 33], sums: [i32; 33])
+    requires { ⌜ (n .0 ≤ 4) × (h .0 ≤ 32) ⌝ }
+{
+    let top = h.0;
+    for l in 0..=top {
+        let place = l as usize;
+        level_line(n, Level(l), cells[place], sums[place]);
+    }
+}
+
+// The census of the pyramid of a record, which checks it first.
+fn print_census(
+    n: Dim,
+    darts: u16,
+    h: Level,
+    rows: &[u16],
+    lambda: &[u8],
+    delta: &[u8],
+    table: &mut [u16],
+) {
+    let mut cells = [[0u16; 5]; 33];
+    let mut sums = [0i32; 33];
+    match counting::census(
+        n,
+        darts,
+        h,
+        rows,
+        lambda,
+        delta,
+        table,
+        &mut cells,
+        &mut sums,
+    ) {
+        Check::Refused(r) => refuse(r),
+        Check::Accepted => all_levels(n, h, cells, sums),
+    }
+}
+
+// The pyramid of a record that was taken: it stands at the front of the arrays, since its sizes are in range.
+fn print_taken(
+    n: Dim,
+    darts: u16,
+    h: Level,
+    rows: &[u16],
+    lambda: &[u8],
+    delta: &[u8],
+    table: &mut [u16],
+)
+    requires { ⌜ (n .0 ≤ 4) × (darts ≤ 4096) × (length (now rows) ≡ 20480) × (length (now lambda) ≡ 4096) × (length (now delta) ≡ 4096) × (length (now table) ≡ 20480) ⌝ }
+{
+    let width = darts as usize;
+    let size = (n.0 as usize + 1) * width;
+    print_census(
+        n,
+        darts,
+        h,
+        &rows[..size],
+        &lambda[..width],
+        &delta[..width],
+        &mut table[..size],
+    );
+}
+
+fn main() {
+    let mut input = io::large_buffer();
+    let mut rows = [0u16; 20480];
+    let mut lambda = [0u8; 4096];
+    let mut delta = [0u8; 4096];
+    let mut table = [0u16; 20480];
+    let length = io::read_full(0, &mut input);
+    match taking::take(
+        &input[..length],
+        &mut rows,
+        &mut lambda,
+        &mut delta,
+        &mut table,
+    ) {
+        Taken::Refused(r) => refuse(r),
+        Taken::Record(n, h, darts) => print_taken(n, darts, h, &rows, &lambda, &delta, &mut table),
+    }
+}

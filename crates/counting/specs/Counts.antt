@@ -1,0 +1,40 @@
+-- What is counted of one level, and of all. Assumes nothing: these are definitions.
+use mathlib.Core.Path.{_≡_}
+use mathlib.Core.Logic.{_⊎_}
+use mathlib.Core.List.{List, []}
+use Prim.Native.Nat.{ℕ, _≤_, _<_}
+use lib.ListN.{length, getD, replicate}
+use lib.IntN.{ℤ}
+use Rattle.maps.specs.Table.{entry, each}
+use Rattle.maps.specs.CheckBase.{present}
+use Rattle.maps.specs.Folded.{survives, marks, level}
+use Rattle.maps.specs.Census.{CellCount, alternating, countAt, sumAt}
+
+-- the five counts of an explicit level, 0 above dimension n
+pub record LevelCounted (n N : ℕ) (table row : List ℕ) : Type 0 where
+  pub long : length row ≡ 5
+  pub cells : (i : ℕ) → i ≤ n → CellCount (entry N table) n N (present N table) i (each row i)
+  pub unused : (i : ℕ) → n < i → i < 5 → each row i ≡ 0
+
+-- no count at all
+unfoldable pub zeroed : List (List ℕ)
+zeroed = replicate 33 (replicate 5 0)
+
+module _ (n N h : ℕ) (rows lambda delta : List ℕ) where
+  -- the counts of the levels below k, in 33 rows of five; all other places are 0
+  pub record Counted (counts : List (List ℕ)) (k : ℕ) : Type 0 where
+    pub rows-long : length counts ≡ 33
+    pub row-long : (l : ℕ) → l < 33 → length (getD counts l []) ≡ 5
+    pub cells : (l i : ℕ) → l < k → i ≤ n → CellCount (level (entry N rows) n N (marks h (each lambda) (each delta)) l) n N (survives (each lambda) l) i (countAt counts l i)
+    pub unused : (l i : ℕ) → l < 33 → i < 5 → (k ≤ l) ⊎ (n < i) → countAt counts l i ≡ 0
+
+-- 33 rows of five counts, none above 4,096
+pub record Few (counts : List (List ℕ)) : Type 0 where
+  pub rows-long : length counts ≡ 33
+  pub row-long : (l : ℕ) → l < 33 → length (getD counts l []) ≡ 5
+  pub few : (l i : ℕ) → l < 33 → i < 5 → countAt counts l i ≤ 4096
+
+-- the alternating sum of each row
+pub record Summed (counts : List (List ℕ)) (sums : List ℤ) : Type 0 where
+  pub long : length sums ≡ 33
+  pub sum : (l : ℕ) → l < 33 → sumAt sums l ≡ alternating (countAt counts l) 5

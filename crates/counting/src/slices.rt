@@ -1,0 +1,79 @@
+// The census in slices, for callers that lend no arrays: row l of the counts stands at 5l. 330 bytes of counts and 132 of sums are kept besides. Assumes nothing.
+use answers::Check;
+use answers::Dim;
+use answers::Level;
+ghost use mathlib.Core.Path.{_≡_};
+ghost use Prim.Native.Nat.{_≤_, _<_};
+ghost use lib.ListN.{length};
+ghost use Rattle.maps.specs.Census.{censusLent, censusTable, CensusPutLeaves};
+ghost use Rattle.answers.specs.Numbers.{verdictOf};
+ghost use Rattle.counting.specs.Slices.{RowPut, CellsPut, Fitting};
+
+// One row of counts, to its five places.
+fn put_row(row: [u16; 5], l: usize, cells: &mut [u16])
+    requires { ⌜ (l < 33) × (length (now cells) ≡ 165) ⌝ }
+    ensures { λ _. ⌜ RowPut row l (now (cells .entry)) (now (cells .exit)) ⌝ }
+{
+    for i in 0..5usize {
+        cells[5 * l + i] = row[i];
+    }
+}
+
+// All counts, row after row.
+fn put_cells(counts: [[u16; 5]; 33], cells: &mut [u16])
+    requires { ⌜ length (now cells) ≡ 165 ⌝ }
+    ensures { λ _. ⌜ CellsPut counts (now (cells .exit)) ⌝ }
+{
+    for l in 0..33usize {
+        put_row(counts[l], l, cells);
+    }
+}
+
+// All sums.
+fn put_sums(all: [i32; 33], sums: &mut [i32])
+    requires { ⌜ Fitting all × (length (now sums) ≡ 33) ⌝ }
+    ensures { λ _. ⌜ now (sums .exit) ≡ all ⌝ }
+{
+    for l in 0..33usize {
+        sums[l] = all[l];
+    }
+}
+
+// A census into 165 counts and 33 sums; slices of other lengths are refused as all others are.
+pub fn census_into(
+    n: Dim,
+    darts: u16,
+    h: Level,
+    rows: &[u16],
+    lambda: &[u8],
+    delta: &[u8],
+    table: &mut [u16],
+    cells: &mut [u16],
+    sums: &mut [i32],
+) -> Check
+    ensures { λ r. ⌜ verdictOf r ≡ censusLent (n .0) darts (h .0) (now (rows .entry)) (now (lambda .entry)) (now (delta .entry)) (now (table .entry)) (now (cells .entry)) (now (sums .entry)) ⌝ }
+    ensures { λ _. ⌜ now (table .exit) ≡ censusTable (n .0) darts (h .0) (now (rows .entry)) (now (lambda .entry)) (now (delta .entry)) (now (table .entry)) (now (cells .entry)) (now (sums .entry)) ⌝ }
+    ensures { λ _. ⌜ CensusPutLeaves (n .0) darts (h .0) (now (rows .entry)) (now (lambda .entry)) (now (delta .entry)) (censusLent (n .0) darts (h .0) (now (rows .entry)) (now (lambda .entry)) (now (delta .entry)) (now (table .entry)) (now (cells .entry)) (now (sums .entry))) (now (cells .entry)) (now (sums .entry)) (now (cells .exit)) (now (sums .exit)) ⌝ }
+{
+    if !answers::both(cells.len() == 165, sums.len() == 33) {
+        return answers::lent(n, darts, h, false);
+    }
+    let mut counts = crate::zeros();
+    let mut all = [0i32; 33];
+    if let Check::Refused(r) = crate::census(
+        n,
+        darts,
+        h,
+        rows,
+        lambda,
+        delta,
+        table,
+        &mut counts,
+        &mut all,
+    ) {
+        return Check::Refused(r);
+    }
+    put_cells(counts, cells);
+    put_sums(all, sums);
+    Check::Accepted
+}
