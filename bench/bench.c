@@ -17,17 +17,19 @@ struct implementation {
     __typeof__(&plain_take) take;
     __typeof__(&plain_write) write;
     __typeof__(&plain_decimation) decimation;
+    __typeof__(&plain_import) import;
+    __typeof__(&plain_export) export;
     __typeof__(&plain_survivors) survivors;
     __typeof__(&plain_census) census;
 };
 
 static const struct implementation implementations[] = {
     {"library", zg_check, zg_add, zg_unfold, zg_read, zg_read_by_levels, zg_mark_cells, zg_take, zg_write,
-     zg_decimation, zg_survivors, zg_census},
+     zg_decimation, zg_import, zg_export, zg_survivors, zg_census},
     {"c", plain_check, plain_add, plain_unfold, plain_read, plain_read_by_levels, plain_mark_cells, plain_take,
-     plain_write, plain_decimation, plain_survivors, plain_census},
+     plain_write, plain_decimation, plain_import, plain_export, plain_survivors, plain_census},
     {"skipping", plain_check, plain_add, plain_unfold, plain_read, plain_read_by_levels_skipping, plain_mark_cells,
-     plain_take, plain_write, plain_decimation, plain_survivors, plain_census},
+     plain_take, plain_write, plain_decimation, plain_import, plain_export, plain_survivors, plain_census},
 };
 
 /* All that is lent. It is written once before anything is counted, so no page is touched for the first time then. */
@@ -35,6 +37,8 @@ static struct pyramid map, lower, taken;
 static uint16_t table[ZG_MOST_ENTRIES], top[ZG_MOST_ENTRIES];
 static uint8_t marks[ZG_MOST_DARTS], kernel[ZG_MOST_DARTS], record[ZG_MOST_RECORD];
 static uint8_t written[ZG_MOST_RECORD];
+static uint16_t edges[2048], vertices[2048], base[3 * 4096], partner_edges[2048], partner_vertices[2048];
+static unsigned partner_darts; /* half of the map's, an even number */
 static uint8_t lambda[ZG_MOST_DARTS], delta[ZG_MOST_DARTS];
 static uint64_t words[64];
 static uint16_t cells[ZG_CELLS];
@@ -117,6 +121,19 @@ static void run_decimation(const struct implementation *by)
     factors += r.factor;
 }
 
+/* A combinatorial map of half as many darts, whose pairs and vertices are drawn by a fixed rule. */
+static void run_import(const struct implementation *by)
+{
+    unsigned m = partner_darts;
+    refusals += by->import((uint16_t)m, edges, m, vertices, m, base, 6 * m).number;
+}
+
+static void run_export(const struct implementation *by)
+{
+    unsigned m = partner_darts;
+    refusals += by->export(2, (uint16_t)(2 * m), base, 6 * m, partner_edges, m, partner_vertices, m).number;
+}
+
 /* Every level. */
 static void run_survivors(const struct implementation *by)
 {
@@ -140,6 +157,7 @@ static const struct job jobs[] = {
     {"mark", run_mark},   {"take", run_take}, {"write", run_write},   {"survivors", run_survivors},
     {"decimation", run_decimation},
     {"census", run_census},
+    {"import", run_import}, {"export", run_export},
 };
 
 /* ---------------------------------------------------------------- */
@@ -160,6 +178,21 @@ static void split_top(void)
     memcpy(delta, lower.delta, sizeof delta);
 }
 
+/* Edges join darts half a round apart; a vertex goes on by a step that has no divisor in common with the number. */
+static void make_partner(void)
+{
+    partner_darts = map.darts / 4 * 2;
+    unsigned m = partner_darts;
+    for (unsigned d = 0; d < m; d++) {
+        edges[d] = (uint16_t)((d + m / 2) % m);
+        vertices[(d * 1009) % m] = (uint16_t)(((d + 1) * 1009) % m);
+    }
+    memset(base, 0, sizeof base);
+    memset(partner_edges, 0, sizeof partner_edges);
+    memset(partner_vertices, 0, sizeof partner_vertices);
+    refusals += plain_import((uint16_t)m, edges, m, vertices, m, base, 6 * m).number;
+}
+
 static void set_up(const char *name)
 {
     if (!make_pyramid(&map, name)) {
@@ -177,6 +210,7 @@ static void set_up(const char *name)
     memset(cells, 0, sizeof cells);
     memset(sums, 0, sizeof sums);
     memset(written, 0, sizeof written);
+    make_partner();
 }
 
 static const struct implementation *implementation_named(const char *name)

@@ -902,3 +902,81 @@ zg_refusal plain_census(uint8_t n, uint16_t darts, uint8_t h, const uint16_t *ro
     }
     return r;
 }
+
+/* ---------------------------------------------------------------- combinatorial maps */
+
+static zg_refusal find_bad_partner(unsigned m, const uint16_t *row, unsigned i)
+{
+    for (unsigned d = 0; d < m; d++)
+        if (row[d] >= m)
+            return RESULT(zg_refusal, 5, 0, i, d);
+    return RESULT(zg_refusal, 0);
+}
+
+static zg_refusal check_partner(unsigned m, const uint16_t *edges, const uint16_t *vertices)
+{
+    bool had[2048] = {false};
+    if (!all_below(edges, m, m))
+        return find_bad_partner(m, edges, 0);
+    if (!all_below(vertices, m, m))
+        return find_bad_partner(m, vertices, 1);
+    for (unsigned d = 0; d < m; d++)
+        if (edges[edges[d]] != d)
+            return RESULT(zg_refusal, 6, 0, 0, d);
+    for (unsigned d = 0; d < m; d++) {
+        if (had[vertices[d]])
+            return RESULT(zg_refusal, 21, 0, 1, d);
+        had[vertices[d]] = true;
+    }
+    return RESULT(zg_refusal, 0);
+}
+
+zg_refusal plain_import(uint16_t m, const uint16_t *edges, size_t edges_len, const uint16_t *vertices,
+                        size_t vertices_len, uint16_t *rows, size_t rows_len)
+{
+    if (m - 1u > 2047)
+        return RESULT(zg_refusal, 2);
+    if (edges_len != m || vertices_len != m || rows_len != 6u * m)
+        return RESULT(zg_refusal, 4);
+    zg_refusal bad = check_partner(m, edges, vertices);
+    if (bad.number)
+        return bad;
+    uint16_t *restrict a0 = rows, *restrict a1 = rows + 2 * m, *restrict a2 = rows + 4 * m;
+    for (unsigned d = 0; d < m; d++) {
+        a0[2 * d] = (uint16_t)(2 * edges[d] + 1);
+        a0[2 * d + 1] = (uint16_t)(2 * edges[d]);
+    }
+    for (unsigned d = 0; d < m; d++) {
+        a1[2 * d + 1] = (uint16_t)(2 * vertices[d]);
+        a1[2 * vertices[d]] = (uint16_t)(2 * d + 1);
+    }
+    for (unsigned d = 0; d < 2u * m; d++)
+        a2[d] = (uint16_t)(d ^ 1);
+    return RESULT(zg_refusal, 0);
+}
+
+zg_refusal plain_export(uint8_t n, uint16_t darts, const uint16_t *rows, size_t rows_len, uint16_t *edges,
+                        size_t edges_len, uint16_t *vertices, size_t vertices_len)
+{
+    unsigned m = darts / 2u;
+    if (n != 2)
+        return RESULT(zg_refusal, 1);
+    if (darts - 1u > ZG_MOST_DARTS - 1)
+        return RESULT(zg_refusal, 2);
+    if (rows_len != 3u * darts || edges_len != m || vertices_len != m)
+        return RESULT(zg_refusal, 4);
+    zg_refusal bad = check_rows(2, darts, rows);
+    if (bad.number)
+        return bad;
+    const uint16_t *a0 = rows, *a1 = rows + darts, *a2 = rows + 2 * darts;
+    if (darts % 2)
+        return RESULT(zg_refusal, 22);
+    for (unsigned d = 0; d < m; d++)
+        if (a2[2 * d] != 2 * d + 1 || a1[2 * d + 1] % 2 || !(a0[2 * d] % 2))
+            return RESULT(zg_refusal, 22);
+    for (unsigned d = 0; d < m; d++) {
+        edges[d] = a0[2 * d] / 2;
+        vertices[d] = a1[2 * d + 1] / 2;
+    }
+    return RESULT(zg_refusal, 0);
+}

@@ -23,6 +23,8 @@ __typeof__(zg_take) plain_take;
 __typeof__(zg_write) plain_write;
 __typeof__(zg_decimation) plain_decimation;
 __typeof__(zg_census) plain_census;
+__typeof__(zg_import) plain_import;
+__typeof__(zg_export) plain_export;
 
 /* As plain_read_by_levels, but passing at once over the levels on which a step finds its dart unchanged. */
 __typeof__(zg_read_by_levels) plain_read_by_levels_skipping;

@@ -15,7 +15,7 @@ set -u
 source "$(dirname "$0")/../tests/tools.sh"
 BUILD=${BUILD:-target/bench} CPU=${CPU:-qemu64}
 maps=${MAPS:-"grid2 grid3 path32 grid4 strip voxels both1 both2 both3 both4 cycle vertex"}
-jobs=${JOBS:-"check add unfold read bylevels mark take write survivors decimation census"}
+jobs=${JOBS:-"check add unfold read bylevels mark take write survivors decimation census import export"}
 
 need_compiler
 [ "$LIB" != c ] || need "$binutils" "$OBJCOPY" --version
@@ -117,8 +117,9 @@ done
 echo
 echo "growth: instructions for each dart, library (C)"
 printf '%-8s %-8s %20s %20s %20s %20s\n' job map 512 1024 2048 4096
-for job in check unfold mark; do
+for job in check unfold mark import export; do
     for map in grid2 path32 strip vertex; do
+        [[ $job != *port || $map = grid2 ]] || continue # only their size is of the map
         printf '%-8s %-8s' "$job" "$map"
         for size in -512 -1024 -2048 ""; do
             lib=$(count library "$job" "$map$size") && c=$(count c "$job" "$map$size") || exit 2

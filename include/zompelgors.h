@@ -16,12 +16,13 @@ extern "C" {
  * answers or is lent something else than before, MINOR when something is added, PATCH when neither is seen from here.
  */
 #define ZG_VERSION_MAJOR 5
-#define ZG_VERSION_MINOR 1
+#define ZG_VERSION_MINOR 2
 #define ZG_VERSION_PATCH 0
 #define ZG_VERSION (ZG_VERSION_MAJOR * 65536 + ZG_VERSION_MINOR * 256 + ZG_VERSION_PATCH)
 
 #define ZG_MOST_DIMENSION 4 /* n is 1 to 4 */
 #define ZG_MOST_DARTS 4096  /* N is 1 to 4,096 */
+#define ZG_MOST_PARTNER_DARTS 2048 /* M is 1 to 2,048 */
 #define ZG_MOST_LEVELS 32   /* h is 0 to 32: so many levels above the base */
 #define ZG_MOST_ENTRIES ((ZG_MOST_DIMENSION + 1) * ZG_MOST_DARTS) /* of rows, or of a table */
 #define ZG_MOST_RECORD 49180 /* bytes of the largest record */
@@ -49,6 +50,8 @@ extern "C" {
  *   sums     the alternating sums of a census, ZG_SUMS entries
  *
  *   bytes    a record, or a buffer for one
+ *   edges    of a 2D combinatorial map of M darts, 0 to M-1: for each dart the other of its edge, or itself
+ *   vertices for each of its darts the next around its vertex
  *
  * Every length is in entries, not bytes, and must be exact (what zg_take writes to and the buffer of zg_write alone may
  * be longer). A pointer must be aligned as its type asks and good for the length that is given with it, also where that
@@ -64,14 +67,15 @@ extern "C" {
  *
  * Every answer begins with its refusal. Its number is ZG_ACCEPTED (then level, involution and dart are 0 too), or says
  * why the call is refused. Each function tests its numbers in the order given with it; the first place found is the one
- * reported. A field that says nothing is 0; numbers 1 to 4 and 20 have all three 0. Counts, and whatever else is found,
- * are 0 in a refusal (a height alone is as given). Unless said otherwise, a refusal leaves everything lent as it was.
+ * reported. A field that says nothing is 0; numbers 1 to 4, 20 and 22 have all three 0. Counts, and whatever else is
+ * found, are 0 in a refusal (a height alone is as given). Unless said otherwise, a refusal leaves everything lent as it
+ * was.
  */
 
 enum zg_number {
     ZG_ACCEPTED = 0,
-    ZG_DIMENSION = 1,      /* n not 1..4 */
-    ZG_DARTS = 2,          /* N not 1..4,096 */
+    ZG_DIMENSION = 1,      /* n not 1..4; zg_export: not 2 */
+    ZG_DARTS = 2,          /* N not 1..4,096; zg_import: M not 1..2,048 */
     ZG_HEIGHT = 3,         /* h above 32 */
     ZG_LENGTH = 4,         /* a length is not exact; records: too short */
     ZG_STRAYS = 5,         /* a neighbour is N or more; explicit levels: or not present, or an absent dart has one */
@@ -89,7 +93,9 @@ enum zg_number {
     ZG_OTHER_TAG = 17,     /* other tag than due */
     ZG_WRONG_LENGTH = 18,  /* wrong length of a field */
     ZG_BYTES_AFTER = 19,   /* bytes after the record's end */
-    ZG_FULL = 20           /* a level is added at h = 32 */
+    ZG_FULL = 20,          /* a level is added at h = 32 */
+    ZG_TWO_TO_ONE = 21,    /* a vertex row sends two darts to one */
+    ZG_NO_ROWS = 22        /* no two rows yield the base */
 };
 
 typedef struct {
@@ -153,8 +159,8 @@ static inline const char *zg_refusal_text(uint16_t number)
 {
     static const char *const texts[] = {
         "accepted",
-        "the dimension is not 1 to 4",
-        "the number of darts is not 1 to 4096",
+        "the dimension is not 1 to 4, or not 2 for a combinatorial map",
+        "the number of darts is not 1 to 4096, or 1 to 2048 of a combinatorial map",
         "the height is above 32",
         "a length is not the one due",
         "an entry names no dart that is there",
@@ -172,7 +178,9 @@ static inline const char *zg_refusal_text(uint16_t number)
         "the record has another tag than the one due",
         "a field of the record has a wrong length",
         "bytes follow the end of the record",
-        "a level is added at height 32"
+        "a level is added at height 32",
+        "a vertex row sends two darts to one",
+        "no two rows yield the base"
     };
     return number < sizeof texts / sizeof texts[0] ? texts[number] : "no number of a refusal";
 }
@@ -340,6 +348,26 @@ zg_refusal zg_census(uint8_t n, uint16_t darts, uint8_t h, const uint16_t *rows,
                      const uint8_t *lambda, size_t lambda_len, const uint8_t *delta, size_t delta_len,
                      uint16_t *table, size_t table_len, uint16_t *cells, size_t cells_len,
                      int32_t *sums, size_t sums_len);
+
+/*
+ * Brings in a 2D combinatorial map as the base rows of a pyramid with n = 2 and N = 2m. Lent to read: edges, m;
+ * vertices, m. Lent to write: rows, 6m. Dart d becomes darts 2d and 2d+1, which are a2-neighbours; 2d+1 and twice the
+ * vertex successor of d are a1-neighbours; a0 takes 2d to twice the edge partner plus 1, and 2d+1 to twice it.
+ * Accepted: rows hold the base, which zg_check_base accepts.
+ * Refused 2 (m), 4, 5 (an entry of m or more: involution 0 for edges, all of them first, 1 for vertices; the dart), 6
+ * (edges; the dart), 21 (involution 1; the first dart whose image an earlier dart had).
+ */
+zg_refusal zg_import(uint16_t m, const uint16_t *edges, size_t edges_len, const uint16_t *vertices,
+                     size_t vertices_len, uint16_t *rows, size_t rows_len);
+
+/*
+ * Takes a base back to the two rows that yield it. Lent to read: rows, 3N. Lent to write: edges, N div 2; vertices,
+ * N div 2.
+ * Accepted: edges and vertices hold the two rows; zg_import makes the same base of them.
+ * Refused 1 (n is not 2), 2, 4, 5, 6, 7 (as zg_check_base), 22 (no two rows yield the base).
+ */
+zg_refusal zg_export(uint8_t n, uint16_t darts, const uint16_t *rows, size_t rows_len, uint16_t *edges,
+                     size_t edges_len, uint16_t *vertices, size_t vertices_len);
 
 #ifdef __cplusplus
 }

@@ -80,6 +80,8 @@ static void read_item(struct call *c, char item)
     case 'W': c->words = list(&c->words_len, 8); break;
     case 'C': c->cells = list(&c->cells_len, 2); break;
     case 'S': c->sums = sums_list(&c->sums_len); break;
+    case 'P': c->edges = list(&c->edges_len, 2); break;
+    case 'V': c->vertices = list(&c->vertices_len, 2); break;
     }
 }
 
@@ -149,6 +151,8 @@ static void print_answer(const struct call *c)
         case 'F': printf(" %016llx", (unsigned long long)c->factor); break;
         case 'C': print_u16(c->cells, c->cells_len); break;
         case 'S': print_i32(c->sums, c->sums_len); break;
+        case 'P': print_u16(c->edges, c->edges_len); break;
+        case 'V': print_u16(c->vertices, c->vertices_len); break;
         }
     putchar('\n');
 }
@@ -157,6 +161,8 @@ static void free_call(struct call *c)
 {
     free(c->rows);
     free(c->table);
+    free(c->edges);
+    free(c->vertices);
     free(c->lambda);
     free(c->delta);
     free(c->marks);

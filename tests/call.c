@@ -13,15 +13,22 @@
 enum { GUARD = 64, CANARY = 0xA5 };
 
 const char *const job_names[JOBS] = {
-    "check_base", "check", "add", "marks", "read", "bylevels", "unfold", "row", "survivors", "mark", "take", "write",
-    "decimation", "levels", "census", "census_program"
+    [CHECK_BASE] = "check_base", [CHECK] = "check", [ADD] = "add", [MARKS] = "marks", [READ] = "read",
+    [BY_LEVELS] = "bylevels", [UNFOLD] = "unfold", [ROW] = "row", [SURVIVORS] = "survivors", [MARK] = "mark",
+    [TAKE] = "take", [WRITE] = "write", [DECIMATION] = "decimation", [IMPORT] = "import", [EXPORT] = "export",
+    [CENSUS] = "census", [LEVELS] = "levels", [CENSUS_PROGRAM] = "census_program"
 };
 const char *const case_forms[JOBS] = {
-    "nDR", "nDhRLET", "nDhRLEMT", "nDhLElM", "nDhRLElid", "nDhRLElid", "nDhRLElT", "nDhRTli", "DhLlW", "nDTiM",
-    "BRLET", "nDhRLETB", "nDhRLETl", "B", "nDhRLETCS", "B",
+    [CHECK_BASE] = "nDR", [CHECK] = "nDhRLET", [ADD] = "nDhRLEMT", [MARKS] = "nDhLElM", [READ] = "nDhRLElid",
+    [BY_LEVELS] = "nDhRLElid", [UNFOLD] = "nDhRLElT", [ROW] = "nDhRTli", [SURVIVORS] = "DhLlW", [MARK] = "nDTiM",
+    [TAKE] = "BRLET", [WRITE] = "nDhRLETB", [DECIMATION] = "nDhRLETl", [IMPORT] = "DPVR", [EXPORT] = "nDRPV",
+    [CENSUS] = "nDhRLETCS", [LEVELS] = "B", [CENSUS_PROGRAM] = "B"
 };
-const char *const answer_forms[JOBS] = {"", "T", "LET", "M", "", "", "T", "", "W", "M", "RLET", "TB", "FT", "",
-                                          "TCS", ""};
+const char *const answer_forms[JOBS] = {
+    [CHECK_BASE] = "", [CHECK] = "T", [ADD] = "LET", [MARKS] = "M", [READ] = "", [BY_LEVELS] = "", [UNFOLD] = "T",
+    [ROW] = "", [SURVIVORS] = "W", [MARK] = "M", [TAKE] = "RLET", [WRITE] = "TB", [DECIMATION] = "FT", [IMPORT] = "R",
+    [EXPORT] = "PV", [CENSUS] = "TCS", [LEVELS] = "", [CENSUS_PROGRAM] = ""
+};
 
 enum place call_place = BETWEEN_CANARIES;
 void (*call_failed)(void);
@@ -35,12 +42,13 @@ struct lent {
     bool constant, in_use;
 };
 
-enum { IN_ROWS, IN_TABLE, IN_LAMBDA, IN_DELTA, IN_MARKS, IN_BYTES, IN_WORDS, IN_CELLS, IN_SUMS, LENTS };
+enum { IN_ROWS, IN_TABLE, IN_LAMBDA, IN_DELTA, IN_MARKS, IN_BYTES, IN_WORDS, IN_CELLS, IN_SUMS, IN_EDGES,
+       IN_VERTICES, LENTS };
 
 static struct lent lents[LENTS] = {
     {.name = "rows"}, {.name = "table"}, {.name = "lambda"}, {.name = "delta"},
     {.name = "marks"}, {.name = "bytes"}, {.name = "words"}, {.name = "cells"},
-    {.name = "sums"},
+    {.name = "sums"}, {.name = "edges"}, {.name = "vertices"},
 };
 
 static void fail(const struct call *c, const char *what, const char *name)
@@ -106,6 +114,16 @@ static uint8_t *bytes_out(const struct call *c) { return lend(IN_BYTES, c->bytes
 static uint64_t *words_out(const struct call *c) { return lend(IN_WORDS, c->words, c->words_len, 8, false); }
 static uint16_t *cells_out(const struct call *c) { return lend(IN_CELLS, c->cells, c->cells_len, 2, false); }
 static int32_t *sums_out(const struct call *c) { return lend(IN_SUMS, c->sums, c->sums_len, 4, false); }
+static const uint16_t *edges_in(const struct call *c) { return lend(IN_EDGES, c->edges, c->edges_len, 2, true); }
+static uint16_t *edges_out(const struct call *c) { return lend(IN_EDGES, c->edges, c->edges_len, 2, false); }
+static const uint16_t *vertices_in(const struct call *c)
+{
+    return lend(IN_VERTICES, c->vertices, c->vertices_len, 2, true);
+}
+static uint16_t *vertices_out(const struct call *c)
+{
+    return lend(IN_VERTICES, c->vertices, c->vertices_len, 2, false);
+}
 
 static bool filled(const unsigned char *guard)
 {
@@ -270,6 +288,21 @@ static void call_write(struct call *c)
     take_found(c, 1, r.length, 0, 0);
 }
 
+static void call_import(struct call *c)
+{
+    const uint16_t *edges = edges_in(c), *vertices = vertices_in(c);
+    uint16_t *rows = rows_out(c);
+    take_refusal(c, zg_import((uint16_t)c->darts, edges, c->edges_len, vertices, c->vertices_len, rows, c->rows_len));
+}
+
+static void call_export(struct call *c)
+{
+    const uint16_t *rows = rows_in(c);
+    uint16_t *edges = edges_out(c), *vertices = vertices_out(c);
+    take_refusal(c, zg_export((uint8_t)c->n, (uint16_t)c->darts, rows, c->rows_len, edges, c->edges_len, vertices,
+                              c->vertices_len));
+}
+
 static void call_decimation(struct call *c)
 {
     const uint16_t *rows = rows_in(c);
@@ -381,8 +414,11 @@ static void call_census_program(struct call *c)
 void call_job(struct call *c)
 {
     static void (*const calls[JOBS])(struct call *) = {
-        call_check_base, call_check, call_add, call_marks, call_read, call_by_levels, call_unfold, call_row,
-        call_survivors, call_mark, call_take, call_write, call_decimation, call_levels, call_census, call_census_program,
+        [CHECK_BASE] = call_check_base, [CHECK] = call_check, [ADD] = call_add, [MARKS] = call_marks,
+        [READ] = call_read, [BY_LEVELS] = call_by_levels, [UNFOLD] = call_unfold, [ROW] = call_row,
+        [SURVIVORS] = call_survivors, [MARK] = call_mark, [TAKE] = call_take, [WRITE] = call_write,
+        [DECIMATION] = call_decimation, [IMPORT] = call_import, [EXPORT] = call_export, [CENSUS] = call_census,
+        [LEVELS] = call_levels, [CENSUS_PROGRAM] = call_census_program,
     };
     c->founds = 0;
     c->factor = 0;

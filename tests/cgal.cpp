@@ -1,4 +1,5 @@
-// Compares levels with CGAL's Generalized_map, which removes and contracts the same cells one by one.
+// Compares levels with CGAL's Generalized_map, which removes and contracts the same cells one by one, and the bases of
+// partners' maps with its Combinatorial_map.
 //
 // Compiled with -DWITH_LIBRARY the levels come from the library, else from the independent implementation.
 #include "maps.hpp"
@@ -6,6 +7,7 @@
 #include "zompelgors.h"
 #endif
 
+#include <CGAL/Combinatorial_map.h>
 #include <CGAL/Generalized_map.h>
 
 #include <cstdio>
@@ -35,6 +37,13 @@ unsigned add_level(Pyramid& p, const Bytes& marks, Entries& table)
                                marks.data(), marks.size(), table.data(), table.size());
     p.h = r.height;
     return r.refusal.number;
+}
+
+unsigned import_map(unsigned m, const Entries& edges, const Entries& vertices, Entries& rows)
+{
+    return zg_import(std::uint16_t(m), edges.data(), edges.size(), vertices.data(), vertices.size(), rows.data(),
+                     rows.size())
+        .number;
 }
 
 unsigned check_pyramid(const Pyramid& p, Entries& table)
@@ -82,6 +91,11 @@ template <class Job> unsigned number_of(Job job)
 unsigned add_level(Pyramid& p, const Bytes& marks, Entries& table)
 {
     return number_of([&] { p.h = independent::add(p.n, p.darts, p.h, p.rows, p.lambda, p.delta, marks, table); });
+}
+
+unsigned import_map(unsigned m, const Entries& edges, const Entries& vertices, Entries& rows)
+{
+    return number_of([&] { independent::import_map(m, edges, vertices, rows); });
 }
 
 unsigned check_pyramid(const Pyramid& p, Entries& table)
@@ -208,6 +222,9 @@ public:
         return rows;
     }
 
+    // How many cells there are of each dimension, and pieces.
+    std::vector<unsigned> cells() const { return gmap.count_all_cells(); }
+
 private:
     template <unsigned i> void count_from(Entries& all)
     {
@@ -245,6 +262,7 @@ struct Verdicts {
 struct Tally {
     unsigned long pyramids = 0, levels = 0, removed = 0, contracted = 0, left_out = 0, most_darts = 0, counted = 0;
     Verdicts removable, contractible;
+    unsigned long partners = 0;
 };
 
 [[noreturn]] void differs(const char* what, const Pyramid& p)
@@ -366,6 +384,38 @@ template <unsigned n> void compare_pyramid(Random& r, Tally& tally)
     tally.most_darts = std::max<unsigned long>(tally.most_darts, p.darts);
 }
 
+// A partner's map of pairs of darts and a permutation around vertices. CGAL's Combinatorial_map is given the edge
+// partner as beta 2 and as beta 1 the next dart around the face, the vertex successor of the edge partner: the base has
+// the same numbers of vertices, edges, faces and pieces.
+void compare_partner(Random& r, Tally& tally)
+{
+    using CMap = CGAL::Combinatorial_map<2>;
+    const unsigned m = 2 * r.between(1, r.chance(50) ? 12 : 200);
+    Entries order(m), edges(m), rows(std::size_t(6) * m);
+    std::iota(order.begin(), order.end(), std::uint16_t(0));
+    Entries vertices = order;
+    r.shuffle(order);
+    for (unsigned k = 0; k < m; k++)
+        edges[order[k]] = order[k ^ 1];
+    for (unsigned times = r.between(0, 2 * m); times; times--) // many vertices, or few
+        std::swap(vertices[r.below(m)], vertices[r.below(m)]);
+    CMap cmap;
+    std::vector<CMap::Dart_handle> handles(m);
+    for (auto& handle : handles)
+        handle = cmap.create_dart();
+    for (unsigned d = 0; d < m; d++) {
+        cmap.link_beta<1>(handles[d], handles[vertices[edges[d]]]);
+        if (d < edges[d])
+            cmap.link_beta<2>(handles[d], handles[edges[d]]);
+    }
+    const Pyramid none;
+    demand(cmap.is_valid(), "CGAL finds a combinatorial map not valid", none);
+    demand(import_map(m, edges, vertices, rows) == 0, "a combinatorial map is refused", none);
+    const Map base(2, 2 * m, rows);
+    demand(Twin<2>(base).cells() == cmap.count_all_cells(), "the base of a combinatorial map has other cells", none);
+    tally.partners++;
+}
+
 } // namespace
 
 int main(int argc, char** argv)
@@ -382,10 +432,13 @@ int main(int argc, char** argv)
         case 3: compare_pyramid<3>(r, tally); break;
         default: compare_pyramid<4>(r, tally);
         }
+    for (unsigned long k = std::strtoul(argv[2], nullptr, 10); k; k--)
+        compare_partner(r, tally);
     std::printf("%lu pyramids of dimension 2 to 4 (to %lu darts), %lu levels, %lu cells removed and %lu contracted, "
                 "verdicts on %lu removable and %lu other cells, %lu contractible and %lu other cells, %lu folded cells "
-                "left out, %lu cells counted: 0 differences\n",
+                "left out, %lu cells counted; %lu combinatorial maps: 0 differences\n",
                 tally.pyramids, tally.most_darts, tally.levels, tally.removed, tally.contracted, tally.removable.fit,
-                tally.removable.others, tally.contractible.fit, tally.contractible.others, tally.left_out, tally.counted);
+                tally.removable.others, tally.contractible.fit, tally.contractible.others, tally.left_out, tally.counted,
+                tally.partners);
     return 0;
 }

@@ -55,12 +55,12 @@ int main(void)
     uint16_t k, other;
     if (zg_version() != ZG_VERSION)
         return fail("the archive is of another version than the header");
-    for (k = ZG_ACCEPTED; k <= ZG_FULL; k++)
+    for (k = ZG_ACCEPTED; k <= ZG_NO_ROWS; k++)
         for (other = 0; other < k; other++)
             if (!strcmp(zg_refusal_text(k), zg_refusal_text(other)))
                 return fail("two numbers have one text");
-    if (strcmp(zg_refusal_text(ZG_FULL + 1), zg_refusal_text(65535)))
+    if (strcmp(zg_refusal_text(ZG_NO_ROWS + 1), zg_refusal_text(65535)))
         return fail("a text for a number that is none");
-    printf("version %d.%d.%d, %d numbers\n", ZG_VERSION_MAJOR, ZG_VERSION_MINOR, ZG_VERSION_PATCH, ZG_FULL);
+    printf("version %d.%d.%d, %d numbers\n", ZG_VERSION_MAJOR, ZG_VERSION_MINOR, ZG_VERSION_PATCH, ZG_NO_ROWS);
     return 0;
 }

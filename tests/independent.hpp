@@ -791,6 +791,61 @@ inline std::string census_program(const Bytes& bytes)
     }
 }
 
+// A partner's 2D combinatorial map, dart by dart.
+inline void import_map(unsigned m, const Entries& edges, const Entries& vertices, Entries& rows)
+{
+    demand(m >= 1 && m <= 2048, 2);
+    demand_length(edges.size(), m);
+    demand_length(vertices.size(), m);
+    demand_length(rows.size(), std::size_t(6) * m);
+    for (unsigned d = 0; d < m; d++)
+        demand(edges[d] < m, 5, 0, 0, d);
+    for (unsigned d = 0; d < m; d++)
+        demand(vertices[d] < m, 5, 0, 1, d);
+    for (unsigned d = 0; d < m; d++)
+        demand(edges[edges[d]] == d, 6, 0, 0, d);
+    std::set<unsigned> images;
+    for (unsigned d = 0; d < m; d++)
+        demand(images.insert(vertices[d]).second, 21, 0, 1, d);
+    Map base(2, 2 * m);
+    const auto join = [&](unsigned i, unsigned x, unsigned y) {
+        base.a[i][x] = y;
+        base.a[i][y] = x;
+    };
+    for (unsigned d = 0; d < m; d++) {
+        join(2, 2 * d, 2 * d + 1);
+        join(1, 2 * d + 1, 2u * vertices[d]);
+        base.a[0][2 * d] = 2u * edges[d] + 1;
+        base.a[0][2 * d + 1] = 2u * edges[d];
+    }
+    base.write(rows);
+}
+
+// No other two rows can yield a base than those that a0 of its even and a1 of its odd darts name; they are tried.
+inline void export_map(unsigned n, unsigned darts, const Entries& rows, Entries& edges, Entries& vertices)
+{
+    demand(n == 2, 1);
+    demand_darts(darts);
+    const unsigned m = darts / 2;
+    demand_length(rows.size(), std::size_t(3) * darts);
+    demand_length(edges.size(), m);
+    demand_length(vertices.size(), m);
+    demand_base(Map(n, darts, rows));
+    Entries to_edges(m), to_vertices(m), again(std::size_t(6) * m);
+    for (unsigned d = 0; d < m; d++) {
+        to_edges[d] = rows[2 * d] / 2;
+        to_vertices[d] = rows[darts + 2 * d + 1] / 2;
+    }
+    try {
+        import_map(m, to_edges, to_vertices, again);
+    } catch (const Refusal&) {
+        throw Refusal{22};
+    }
+    demand(again == rows, 22);
+    edges = to_edges;
+    vertices = to_vertices;
+}
+
 // What the program levels prints, its lines joined by " / ".
 inline std::string levels(const Bytes& bytes)
 {

@@ -237,7 +237,9 @@ inline void fit_lengths(Case& c)
     const std::size_t rows = std::size_t(c.n + 1) * c.darts;
     for (const char* item = case_forms[c.what]; *item; item++)
         switch (*item) {
-        case 'R': c.rows.resize(rows); break;
+        case 'R': c.rows.resize(c.what == IMPORT ? std::size_t(6) * c.darts : rows); break;
+        case 'P': c.edges.resize(c.what == IMPORT ? c.darts : c.darts / 2); break;
+        case 'V': c.vertices.resize(c.what == IMPORT ? c.darts : c.darts / 2); break;
         case 'T': c.table.resize(rows); break;
         case 'L': c.lambda.resize(c.darts); break;
         case 'E': c.delta.resize(c.darts); break;
@@ -250,9 +252,22 @@ inline void change_size(Random& r, Case& c, char item)
     if (item == 'n')
         c.n = r.pick({0u, 1u, 2u, 3u, 4u, 5u, 6u, 255u});
     else
-        c.darts = r.pick({0u, 1u, (c.darts - 1) & 65535, (c.darts + 1) & 65535, 4096u, 4097u, 65535u});
+        c.darts = r.pick({0u, 1u, (c.darts - 1) & 65535, (c.darts + 1) & 65535, 2048u, 2049u, 4096u, 4097u, 65535u});
     if (c.n <= 6 && c.darts <= 4097 && r.chance(c.darts < 300 ? 60 : 10))
         fit_lengths(c);
+}
+
+// An entry too large, one that another dart has, or another length.
+inline void damage_partner(Random& r, const Case& c, Entries& row)
+{
+    if (row.empty() || r.chance(15))
+        return change_length(r, row);
+    std::uint16_t& entry = row[r.below(row.size())];
+    switch (r.below(4)) {
+    case 0: entry = r.pick({std::uint16_t(c.darts), std::uint16_t(65535), std::uint16_t(r.bits())}); break;
+    case 1: std::swap(entry, row[r.below(row.size())]); break;
+    default: entry = row[r.below(row.size())];
+    }
 }
 
 inline void damage_item(Random& r, Case& c, char item)
@@ -273,6 +288,8 @@ inline void damage_item(Random& r, Case& c, char item)
     case 'W': change_length(r, c.words); break;
     case 'C': change_length(r, c.cells); break;
     case 'S': change_length(r, c.sums); break;
+    case 'P': damage_partner(r, c, c.edges); break;
+    case 'V': damage_partner(r, c, c.vertices); break;
     }
 }
 
@@ -325,7 +342,7 @@ inline void damage_walks(Random& r, Case& c)
 inline void damage(Random& r, Case& c)
 {
     const char* form = case_forms[c.what];
-    const char* lists = std::strpbrk(form, "RTL");
+    const char* lists = std::strpbrk(form, "RTLP");
     if ((c.what == READ || c.what == BY_LEVELS || c.what == UNFOLD) && r.chance(50))
         damage_walks(r, c);
     else
@@ -471,6 +488,47 @@ inline void lend_buffer(Random& r, Case& c)
     c.bytes = junk<Bytes>(r, lengths[r.chance(80) ? r.below(2) : 2 + r.below(2)]);
 }
 
+// A partner's map: pairs of darts, some alone, and a permutation.
+inline void draw_partner(Random& r, unsigned m, Entries& edges, Entries& vertices)
+{
+    std::vector<std::uint16_t> order(m);
+    std::iota(order.begin(), order.end(), std::uint16_t(0));
+    vertices = order;
+    r.shuffle(vertices);
+    r.shuffle(order);
+    edges.assign(m, 0);
+    for (unsigned k = 0; k < m;) {
+        const unsigned other = k + 1 < m && !r.chance(10) ? k + 1 : k;
+        edges[order[k]] = order[other];
+        edges[order[other]] = order[k];
+        k = other + 1;
+    }
+}
+
+// Two rows for the import; for the way back the base that they yield, sometimes with other numbers, or any base.
+inline void lend_partner(Random& r, Case& c)
+{
+    const unsigned m = std::min(c.darts, 2048u);
+    if (c.what == EXPORT && r.chance(25)) {
+        c.edges = junk<Entries>(r, c.darts / 2);
+        c.vertices = junk<Entries>(r, c.darts / 2);
+        return;
+    }
+    draw_partner(r, m, c.edges, c.vertices);
+    c.rows = junk<Entries>(r, std::size_t(6) * m);
+    if (c.what == IMPORT) {
+        c.darts = m;
+        return;
+    }
+    independent::import_map(m, c.edges, c.vertices, c.rows);
+    c.n = 2;
+    c.darts = 2 * m;
+    if (r.chance(20))
+        maps::renumber(r, independent::Map(2, c.darts, c.rows)).write(c.rows);
+    c.edges = junk<Entries>(r, m);
+    c.vertices = junk<Entries>(r, m);
+}
+
 // A case lends only what its job takes: the rest is taken out again, so that its line holds the whole case.
 inline void drop_the_rest(Case& c)
 {
@@ -491,6 +549,10 @@ inline void drop_the_rest(Case& c)
         c.cells.clear();
     if (!takes('S'))
         c.sums.clear();
+    if (!takes('P'))
+        c.edges.clear();
+    if (!takes('V'))
+        c.vertices.clear();
 }
 
 inline Case random_case(Random& r, const Pyramid& source)
@@ -508,6 +570,8 @@ inline Case random_case(Random& r, const Pyramid& source)
         lend_buffer(r, c);
     if (c.what == DECIMATION && c.h > 0 && r.chance(90))
         c.level = r.below(c.h);
+    if (c.what == IMPORT || c.what == EXPORT)
+        lend_partner(r, c);
     drop_the_rest(c);
     if (!record)
         damage(r, c);

@@ -177,6 +177,10 @@ if can "example in C" "${for_c[@]}" &&
     built "example in C" "$CC" -std=c99 "${strict[@]}" -O2 examples/unfold.c "$LIB" -o "$BUILD/unfold"; then
     same "example in C" "$BUILD/unfold.txt" examples/unfold.stdout unfoldings "${run[@]}" "$BUILD/unfold"
 fi
+if can "combinatorial map in C" "${for_c[@]}" &&
+    built "combinatorial map in C" "$CC" -std=c99 "${strict[@]}" -O2 examples/partner.c "$LIB" -o "$BUILD/partner"; then
+    same "combinatorial map in C" "$BUILD/partner.txt" examples/partner.stdout "${run[@]}" "$BUILD/partner"
+fi
 
 # Rust programs are linked and run as the C ones are.
 cargo_for_library() {

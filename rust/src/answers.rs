@@ -33,10 +33,10 @@ pub struct Refusal {
 }
 
 /// What each number says; the header's `zg_refusal_text` has the same phrases.
-const TEXTS: [&str; 21] = [
+const TEXTS: [&str; 23] = [
     "accepted",
-    "the dimension is not 1 to 4",
-    "the number of darts is not 1 to 4096",
+    "the dimension is not 1 to 4, or not 2 for a combinatorial map",
+    "the number of darts is not 1 to 4096, or 1 to 2048 of a combinatorial map",
     "the height is above 32",
     "a length is not the one due",
     "an entry names no dart that is there",
@@ -55,6 +55,8 @@ const TEXTS: [&str; 21] = [
     "a field of the record has a wrong length",
     "bytes follow the end of the record",
     "a level is added at height 32",
+    "a vertex row sends two darts to one",
+    "no two rows yield the base",
 ];
 
 impl Refusal {

@@ -53,6 +53,9 @@ pub const ABSENT: u16 = 65_535;
 /// The largest N.
 pub const MOST_DARTS: usize = 4_096;
 
+/// The largest M, of a 2D combinatorial map.
+pub const MOST_PARTNER_DARTS: usize = 2_048;
+
 /// The largest h: so many levels above the base.
 pub const MOST_LEVELS: usize = 32;
 
@@ -249,4 +252,47 @@ pub fn take(
         h: Level(r.h),
         darts: r.darts,
     })
+}
+
+/// Brings in a 2D combinatorial map of m darts, an edge partner and a vertex successor for each, as the rows of a base
+/// of dimension 2 with 2m darts: dart d becomes 2d and 2d+1. After a refusal the rows are as they were.
+pub fn import(m: u16, edges: &[u16], vertices: &[u16], rows: &mut [u16]) -> Result<(), Refusal> {
+    // Safety: every pointer comes from a slice with its own length, and only the exclusive one is written through.
+    let answer = unsafe {
+        raw::zg_import(
+            m,
+            edges.as_ptr(),
+            edges.len(),
+            vertices.as_ptr(),
+            vertices.len(),
+            rows.as_mut_ptr(),
+            rows.len(),
+        )
+    };
+    answer.accepted()
+}
+
+/// Takes a base back to the two rows that yield it, of half as many darts; 22 where no two rows do. After a refusal
+/// both are as they were.
+pub fn export(
+    n: Dimension,
+    darts: u16,
+    rows: &[u16],
+    edges: &mut [u16],
+    vertices: &mut [u16],
+) -> Result<(), Refusal> {
+    // Safety: every pointer comes from a slice with its own length, and only exclusive ones are written through.
+    let answer = unsafe {
+        raw::zg_export(
+            n.0,
+            darts,
+            rows.as_ptr(),
+            rows.len(),
+            edges.as_mut_ptr(),
+            edges.len(),
+            vertices.as_mut_ptr(),
+            vertices.len(),
+        )
+    };
+    answer.accepted()
 }

@@ -231,4 +231,25 @@ extern "C" {
         sums: *mut i32,
         sums_len: usize,
     ) -> ZgRefusal;
+
+    pub fn zg_import(
+        m: u16,
+        edges: *const u16,
+        edges_len: usize,
+        vertices: *const u16,
+        vertices_len: usize,
+        rows: *mut u16,
+        rows_len: usize,
+    ) -> ZgRefusal;
+
+    pub fn zg_export(
+        n: u8,
+        darts: u16,
+        rows: *const u16,
+        rows_len: usize,
+        edges: *mut u16,
+        edges_len: usize,
+        vertices: *mut u16,
+        vertices_len: usize,
+    ) -> ZgRefusal;
 }

@@ -1,7 +1,8 @@
 //! Phrases, version and largest sizes are those of include/zompelgors.h.
 use std::{fs, path::Path};
 use zompelgors::{
-    version, Refusal, ABSENT, CONTRACT, MOST_DARTS, MOST_LEVELS, MOST_RECORD, STAY, SUMS, WORDS,
+    version, Refusal, ABSENT, CONTRACT, MOST_DARTS, MOST_LEVELS, MOST_PARTNER_DARTS, MOST_RECORD,
+    STAY, SUMS, WORDS,
 };
 
 fn header() -> String {
@@ -26,7 +27,7 @@ fn phrases() {
     let (_, table) = header.split_once("texts[] = {").unwrap();
     let (table, _) = table.split_once("};").unwrap();
     let texts: Vec<&str> = table.split('"').skip(1).step_by(2).collect();
-    assert_eq!(texts.len(), 21);
+    assert_eq!(texts.len(), 23);
     for (number, text) in texts.into_iter().enumerate() {
         let refusal = Refusal {
             number: number as u16,
@@ -56,6 +57,7 @@ fn one_version() {
 #[test]
 fn sizes() {
     assert_eq!(defined("ZG_MOST_DARTS"), MOST_DARTS);
+    assert_eq!(defined("ZG_MOST_PARTNER_DARTS"), MOST_PARTNER_DARTS);
     assert_eq!(defined("ZG_MOST_LEVELS"), MOST_LEVELS);
     assert_eq!(defined("ZG_MOST_RECORD"), MOST_RECORD);
     assert_eq!(defined("ZG_WORDS"), WORDS);

@@ -69,6 +69,8 @@ pub enum Refusal {
     WrongLength(u16),
     BytesAfter(u16),
     Full,
+    TwoToOne(u16),
+    NoRows,
 }
 
 // The answer of a check.
@@ -134,5 +136,7 @@ pub fn numbers_of(refusal: Refusal) -> Numbers
         Refusal::WrongLength(offset) => at_offset(18, offset),
         Refusal::BytesAfter(offset) => at_offset(19, offset),
         Refusal::Full => at_offset(20, 0),
+        Refusal::TwoToOne(d) => placed(21, Level(0), Dim(1), d),
+        Refusal::NoRows => at_offset(22, 0),
     }
 }

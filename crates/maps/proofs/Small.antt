@@ -1,8 +1,9 @@
--- The small maps P1 to P10, small maps with contraction and a small record, by computation on the definitions. Assumes nothing.
+-- The small maps P1 to P10, small maps with contraction, a small record and a partner's map, by computation on the definitions. Assumes nothing.
 use mathlib.Core.Path.{_≡_, refl}
 use mathlib.Core.Bool.{true, false}
 use mathlib.Core.List.{List, [], _∷_}
-use Prim.Native.Nat.{ℕ, zero, suc}
+use Prim.Native.Nat.{ℕ, zero, suc, _<_}
+use native.Mathlib.Omega.{arith}
 use lib.Ieee.{Float, binary64, div, ofInt, round, ofBits}
 use Rattle.maps.specs.Verdict.{Verdict, accepted, refused, scan}
 use Rattle.maps.specs.Sizes.{number1, number2, number3, number4, sizes}
@@ -21,6 +22,8 @@ use Rattle.maps.specs.Decimation.{decimationLent, decimationEmpty, decim
 use Rattle.maps.specs.Check.{at5, at6, at7, check5, check6, check7, checkMap, at9, at10, check9, check10, checkKernel, at8, check8, kernelAt, checkKernels, checkPyramid}
 use Rattle.maps.specs.CheckPyramid.{leftBehind, checkLent, checkLeaves}
 use Rattle.maps.specs.Record.{field, formed, recordRows, recordLambda, recordDelta, recordLent, takeLent, takeRows, takeLambda, takeDelta, takeTable}
+use Rattle.maps.specs.Sizes.{number2, number4}
+use Rattle.maps.specs.Partner.{Becomes, number2M, outside, edgesBack, had, number21, importLent, exportLent}
 
 -- a folded pyramid as it is lent: n, N, h, rows, Λ, Δ
 pub record Lent : Type 0 where
@@ -294,3 +297,52 @@ pub record SmallRecord : Type 0 where
 pub small-record : SmallRecord
 unfolding isMark between hasBeyond beyond scan count sum goOn removal listed explicit level at5 at6 at7 check5 check6 check7 checkMap at9 at10 check9 check10 checkKernel at8 check8 kernelAt checkKernels checkPyramid number1 number2 number3 number4 sizes leftBehind checkLent checkLeaves field formed recordRows recordLambda recordDelta recordLent takeLent takeRows takeLambda takeDelta takeTable
 small-record = record { refuses = refl; rows-left = refl; lambda-left = refl; delta-left = refl; table-left = refl }
+
+-- ---- a partner's map
+
+-- three edges {0,1}, {2,3}, {4,5} that start at one vertex, around which 0, 2 and 4 follow each other
+abbrev partnerEdges : List ℕ
+partnerEdges = 1 ∷ 0 ∷ 3 ∷ 2 ∷ 5 ∷ 4 ∷ []
+
+abbrev partnerVertices : List ℕ
+partnerVertices = 2 ∷ 1 ∷ 4 ∷ 3 ∷ 0 ∷ 5 ∷ []
+
+-- it becomes a star, as that of P8 with other numbers
+abbrev partnerBase : List ℕ
+partnerBase = 3 ∷ 2 ∷ 1 ∷ 0 ∷ 7 ∷ 6 ∷ 5 ∷ 4 ∷ 11 ∷ 10 ∷ 9 ∷ 8 ∷ 9 ∷ 4 ∷ 3 ∷ 2 ∷ 1 ∷ 8 ∷ 7 ∷ 6 ∷ 5 ∷ 0 ∷ 11 ∷ 10 ∷ 1 ∷ 0 ∷ 3 ∷ 2 ∷ 5 ∷ 4 ∷ 7 ∷ 6 ∷ 9 ∷ 8 ∷ 11 ∷ 10 ∷ []
+
+-- what holds of 0 to 5 holds below 6
+below-six : (P : ℕ → Type 0) → P 0 → P 1 → P 2 → P 3 → P 4 → P 5 → (d : ℕ) → d < 6 → P d
+below-six P p0 p1 p2 p3 p4 p5 zero l = p0
+below-six P p0 p1 p2 p3 p4 p5 (suc zero) l = p1
+below-six P p0 p1 p2 p3 p4 p5 (suc (suc zero)) l = p2
+below-six P p0 p1 p2 p3 p4 p5 (suc (suc (suc zero))) l = p3
+below-six P p0 p1 p2 p3 p4 p5 (suc (suc (suc (suc zero)))) l = p4
+below-six P p0 p1 p2 p3 p4 p5 (suc (suc (suc (suc (suc zero))))) l = p5
+below-six P p0 p1 p2 p3 p4 p5 (suc (suc (suc (suc (suc (suc d)))))) l = absurd (omega arith)
+
+pub record SmallPartner : Type 0 where
+  pub taken : importLent 6 partnerEdges partnerVertices partnerBase ≡ accepted
+  pub becomes : Becomes 6 (each partnerEdges) (each partnerVertices) (entry 12 partnerBase)
+  pub back : exportLent 2 12 partnerBase partnerEdges partnerVertices ≡ accepted
+  -- an entry too large, of the edge row before one of the vertex row; an edge that doesn't lead back; 5 has the image that 2 had
+  pub stray-edge : importLent 6 (1 ∷ 6 ∷ 3 ∷ 2 ∷ 5 ∷ 4 ∷ []) (6 ∷ 1 ∷ 4 ∷ 3 ∷ 0 ∷ 5 ∷ []) partnerBase ≡ refused 5 0 0 1
+  pub stray-vertex : importLent 6 (1 ∷ 1 ∷ 3 ∷ 2 ∷ 5 ∷ 4 ∷ []) (2 ∷ 1 ∷ 6 ∷ 3 ∷ 0 ∷ 5 ∷ []) partnerBase ≡ refused 5 0 1 2
+  pub not-back : importLent 6 (1 ∷ 1 ∷ 3 ∷ 2 ∷ 5 ∷ 4 ∷ []) (2 ∷ 1 ∷ 4 ∷ 3 ∷ 0 ∷ 4 ∷ []) partnerBase ≡ refused 6 0 0 0
+  pub two-to-one : importLent 6 partnerEdges (2 ∷ 1 ∷ 4 ∷ 3 ∷ 0 ∷ 4 ∷ []) partnerBase ≡ refused 21 0 1 5
+
+pub small-partner : SmallPartner
+unfolding scan at5 at6 at7 check5 check6 check7 checkMap number2 number4 number2M outside edgesBack had number21 importLent exportLent
+small-partner = record {
+  taken = refl;
+  becomes = record {
+    a2 = below-six _ (refl, refl) (refl, refl) (refl, refl) (refl, refl) (refl, refl) (refl, refl);
+    a1 = below-six _ (refl, refl) (refl, refl) (refl, refl) (refl, refl) (refl, refl) (refl, refl);
+    a0 = below-six _ (refl, refl) (refl, refl) (refl, refl) (refl, refl) (refl, refl) (refl, refl);
+  };
+  back = refl;
+  stray-edge = refl;
+  stray-vertex = refl;
+  not-back = refl;
+  two-to-one = refl;
+}

@@ -31,4 +31,5 @@ pub mod Record
 pub mod Write
 pub mod Decimation
 pub mod Census
+pub mod Partner
 pub mod Accepted

@@ -1,5 +1,5 @@
 -- Each function of the C interface leaves one outcome for each input. Assumes nothing.
-use mathlib.Core.Path.{refl, sym, _∙_}
+use mathlib.Core.Path.{refl, ap, sym, _∙_}
 use contract.Lifetimes.{Lfts}
 use denote.Ref.{now}
 use Rattle.maps.specs.Census.{censusLent}
@@ -19,8 +19,12 @@ use Rattle.zompelgors.proofs.zg_write.Reads as write
 use Rattle.zompelgors.proofs.zg_decimation.Reads as decimation
 use Rattle.zompelgors.proofs.zg_census.Reads as census
 use Rattle.counting.proofs.OneCensus.{put-leaves-one}
+use Rattle.zompelgors.proofs.zg_import.Reads as import-map
+use Rattle.zompelgors.proofs.zg_export.Reads as export-map
+use Rattle.zompelgors.specs.Flat.{refusalFor}
 use Rattle.outcomes.proofs.One.{OneOutcome, one-outcome, nothing, three, same-three, four, same-four, pair, same-pair}
 use Rattle.outcomes.proofs.Cells.{marking-same}
+use Rattle.outcomes.proofs.Partner.{import-same, export-same}
 
 pub zg-version-one : (κs : Lfts 0) → OneOutcome (version.Learnt κs) (λ r. r) nothing
 zg-version-one κs = one-outcome _ _ _ (λ a r. r) (λ r. r) (λ a r. refl) _ _ (λ a r s c. (c, refl))
@@ -78,3 +82,13 @@ pub zg-census-one : (κs : Lfts 6) → OneOutcome (census.Learnt κs) (λ r. r) 
 zg-census-one κs a r r′ s s′ c c′ =
     let w = put-leaves-one (a .0) (a .1 .0) (a .1 .1 .0) (now (a .1 .1 .1 .0)) (now (a .1 .1 .1 .1 .0)) (now (a .1 .1 .1 .1 .1 .0)) (censusLent (a .0) (a .1 .0) (a .1 .1 .0) (now (a .1 .1 .1 .0)) (now (a .1 .1 .1 .1 .0)) (now (a .1 .1 .1 .1 .1 .0)) (now (a .1 .1 .1 .1 .1 .1 .0)) (now (a .1 .1 .1 .1 .1 .1 .1 .0)) (now (a .1 .1 .1 .1 .1 .1 .1 .1 .0))) (now (a .1 .1 .1 .1 .1 .1 .1 .0)) (now (a .1 .1 .1 .1 .1 .1 .1 .1 .0)) _ _ _ _ (c .1 .1) (c′ .1 .1) in
     (c .0 ∙ sym (c′ .0), same-three (c .1 .0 ∙ sym (c′ .1 .0)) (w .0) (w .1))
+
+-- the base rows
+pub zg-import-one : (κs : Lfts 3) → OneOutcome (import-map.Learnt κs) (λ r. r) (λ s. now (s .1 .1 .1 .0))
+zg-import-one κs a r r′ s s′ c c′ = (c .0 ∙ sym (c′ .0), import-same (a .0) (now (a .1 .0)) (now (a .1 .1 .0)) (now (a .1 .1 .1 .0)) _ _ (c .1) (c′ .1))
+
+-- the two rows
+pub zg-export-one : (κs : Lfts 3) → OneOutcome (export-map.Learnt κs) (λ r. r) (λ s. pair (now (s .1 .1 .1 .0)) (now (s .1 .1 .1 .1 .0)))
+zg-export-one κs a r r′ s s′ c c′ =
+    let e = export-same (a .0) (a .1 .0) (now (a .1 .1 .0)) (now (a .1 .1 .1 .0)) (now (a .1 .1 .1 .1 .0)) (c .0) (c′ .0) _ _ _ _ (c .2) (c′ .2) in
+    (c .1 ∙ ap refusalFor (e .0) ∙ sym (c′ .1), same-pair (e .1) (e .2))

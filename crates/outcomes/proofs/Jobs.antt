@@ -41,9 +41,12 @@ use Rattle.shrinking.proofs.decimation.Reads as decimation
 use Rattle.counting.proofs.census.Reads as census
 use Rattle.counting.proofs.census_into.Reads as census-into
 use Rattle.counting.proofs.OneCensus.{leaves-one, put-leaves-one}
+use Rattle.partner.proofs.import.Reads as import-map
+use Rattle.partner.proofs.export.Reads as export-map
 use Rattle.outcomes.proofs.One.{OneOutcome, one-outcome, nothing, three, same-three, four, same-four, pair, same-pair}
 use Rattle.outcomes.proofs.Answers.{checkFrom, check-told, readingFrom, reading-told, valuesOfLink, linkFrom, link-told, valuesOfTotal, totalFrom, total-told, valuesOfSurvivors, survivorsFrom, survivors-told, valuesOfAdded, addedFrom, added-told, takenFrom, taken-told, writtenFrom, written-told, factorFrom, factor-told, numbersFrom, numbers-told}
 use Rattle.outcomes.proofs.Cells.{marking-same}
+use Rattle.outcomes.proofs.Partner.{import-same, export-same}
 
 pub check-base-one : (κs : Lfts 1) → OneOutcome (check-base.Learnt κs) (λ r. r) nothing
 check-base-one κs = one-outcome _ _ _ (λ a. verdictOf) checkFrom (λ a. check-told) _ _ (λ a r s c. (c, refl))
@@ -125,6 +128,17 @@ pub census-into-one : (κs : Lfts 6) → OneOutcome (census-into.Learnt κs) (λ
 census-into-one κs a r r′ s s′ c c′ =
     let w = put-leaves-one (a .0 .0) (a .1 .0) (a .1 .1 .0 .0) (now (a .1 .1 .1 .0)) (now (a .1 .1 .1 .1 .0)) (now (a .1 .1 .1 .1 .1 .0)) (censusLent (a .0 .0) (a .1 .0) (a .1 .1 .0 .0) (now (a .1 .1 .1 .0)) (now (a .1 .1 .1 .1 .0)) (now (a .1 .1 .1 .1 .1 .0)) (now (a .1 .1 .1 .1 .1 .1 .0)) (now (a .1 .1 .1 .1 .1 .1 .1 .0)) (now (a .1 .1 .1 .1 .1 .1 .1 .1 .0))) (now (a .1 .1 .1 .1 .1 .1 .1 .0)) (now (a .1 .1 .1 .1 .1 .1 .1 .1 .0)) _ _ _ _ (c .1 .1) (c′ .1 .1) in
     (sym (check-told r) ∙ ap checkFrom (c .0 ∙ sym (c′ .0)) ∙ check-told r′, same-three (c .1 .0 ∙ sym (c′ .1 .0)) (w .0) (w .1))
+
+-- the base rows, which are those that the two rows yield
+pub import-one : (κs : Lfts 3) → OneOutcome (import-map.Learnt κs) (λ r. r) (λ s. now (s .1 .1 .1 .0))
+import-one κs a r r′ s s′ c c′ =
+    (sym (check-told r) ∙ ap checkFrom (c .0 ∙ sym (c′ .0)) ∙ check-told r′, import-same (a .0) (now (a .1 .0)) (now (a .1 .1 .0)) (now (a .1 .1 .1 .0)) _ _ (c .1) (c′ .1))
+
+-- the two rows, which are those that yield the base
+pub export-one : (κs : Lfts 3) → OneOutcome (export-map.Learnt κs) (λ r. r) (λ s. pair (now (s .1 .1 .1 .0)) (now (s .1 .1 .1 .1 .0)))
+export-one κs a r r′ s s′ c c′ =
+    let e = export-same (a .0 .0) (a .1 .0) (now (a .1 .1 .0)) (now (a .1 .1 .1 .0)) (now (a .1 .1 .1 .1 .0)) (verdictOf r) (verdictOf r′) _ _ _ _ c c′ in
+    (sym (check-told r) ∙ ap checkFrom (e .0) ∙ check-told r′, same-pair (e .1) (e .2))
 
 -- what jobs share
 pub sizes-one : (κs : Lfts 0) → OneOutcome (sizes.Learnt κs) (λ r. r) nothing

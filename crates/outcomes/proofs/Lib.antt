@@ -1,5 +1,6 @@
 pub mod One
 pub mod Answers
 pub mod Cells
+pub mod Partner
 pub mod Jobs
 pub mod Interface

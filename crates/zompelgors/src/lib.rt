@@ -8,7 +8,7 @@ ghost use mathlib.Core.Path.{_≡_};
 ghost use Prim.Native.Nat.{_*_, _≤_};
 ghost use mathlib.Core.Bool.{cond};
 ghost use lib.Dec.{eqb};
-ghost use Rattle.maps.specs.Verdict.{accepted};
+ghost use Rattle.maps.specs.Verdict.{Verdict, accepted};
 ghost use Rattle.maps.specs.CheckBase.{checkBase};
 ghost use Rattle.maps.specs.CheckPyramid.{checkLent, checkLeaves};
 ghost use Rattle.maps.specs.AddLevel.{addLent, addHeight, addLambda, addDelta, addLeaves};
@@ -22,6 +22,7 @@ ghost use Rattle.maps.specs.Record.{takeRows, takeLambda, takeDelta, takeTable}
 ghost use Rattle.maps.specs.Write.{writeTable, writeLeaves};
 ghost use Rattle.maps.specs.Decimation.{decimationTable};
 ghost use Rattle.maps.specs.Census.{censusLent, censusTable, CensusPutLeaves};
+ghost use Rattle.maps.specs.Partner.{importLent, ImportLeaves, exportLent, Exports};
 ghost use Rattle.answers.specs.Numbers.{refusalOf, verdictOf};
 ghost use Rattle.checking.specs.Answers.{addedOf, heightOf};
 ghost use Rattle.questions.specs.Answers.{valueOf};
@@ -371,12 +372,12 @@ fn factor_as(answer: shrinking::Factor) -> ZgFactor
     }
 }
 
-// The version of this interface: 5.1.0.
+// The version of this interface: 5.2.0.
 #[no_mangle]
 pub extern "C" fn zg_version() -> u32
-    ensures { λ r. ⌜ r ≡ versionFor 5 1 0 ⌝ }
+    ensures { λ r. ⌜ r ≡ versionFor 5 2 0 ⌝ }
 {
-    327936
+    328192
 }
 
 // Checks a base.
@@ -678,4 +679,27 @@ pub extern "C" fn zg_census(
         cells,
         sums,
     ))
+}
+
+// Brings in a 2D combinatorial map of m darts as the rows of a base of 2m darts.
+#[no_mangle]
+pub extern "C" fn zg_import(m: u16, edges: &[u16], vertices: &[u16], rows: &mut [u16]) -> ZgRefusal
+    ensures { λ r. ⌜ r ≡ refusalFor (importLent m (now (edges .entry)) (now (vertices .entry)) (now (rows .entry))) ⌝ }
+    ensures { λ _. ⌜ ImportLeaves m (now (edges .entry)) (now (vertices .entry)) (now (rows .entry)) (importLent m (now (edges .entry)) (now (vertices .entry)) (now (rows .entry))) (now (rows .exit)) ⌝ }
+{
+    checked(partner::import(m, edges, vertices, rows))
+}
+
+// Takes a base back to the two rows that yield it.
+#[no_mangle]
+pub extern "C" fn zg_export(
+    n: u8,
+    darts: u16,
+    rows: &[u16],
+    edges: &mut [u16],
+    vertices: &mut [u16],
+) -> ZgRefusal
+    ensures { λ r. ⌜ ((answer : Verdict) × (r ≡ refusalFor answer) × Exports (now (rows .entry)) (now (edges .entry)) (now (vertices .entry)) (exportLent n darts (now (rows .entry)) (now (edges .entry)) (now (vertices .entry))) answer (now (edges .exit)) (now (vertices .exit))) ⌝ }
+{
+    checked(partner::export(Dim(n), darts, rows, edges, vertices))
 }

@@ -125,6 +125,18 @@ enum-told-5 c = search needs
 at-offset-requires-9 : tie.Need-at-offset-requires-9
 at-offset-requires-9 c κs = search needs
 
+enum-known-refusal-16 : tie.Need-enum-known-refusal-16
+enum-known-refusal-16 c = search needs
+
+placed-requires-12 : tie.Need-placed-requires-12
+placed-requires-12 c κs = search needs
+
+enum-told-6 : tie.Need-enum-told-6
+enum-told-6 c = search needs
+
+at-offset-requires-10 : tie.Need-at-offset-requires-10
+at-offset-requires-10 c κs = search needs
+
 returns : tie.Need-returns
 returns c = ap said (c .at-offset .ensures) ∙ sym (ap refusalOf (c .before .enum-told .given .1))
 
@@ -185,6 +197,12 @@ returns-19 c = ap said (c .at-offset8 .ensures) ∙ sym (ap refusalOf (c .before
 returns-20 : tie.Need-returns-20
 returns-20 c = ap said (c .at-offset9 .ensures) ∙ sym (ap refusalOf (c .before .enum-told5 .given .1))
 
+returns-21 : tie.Need-returns-21
+returns-21 c = ap said (c .placed12 .ensures) ∙ sym (ap refusalOf (c .before .before .refusal16 .given .1))
+
+returns-22 : tie.Need-returns-22
+returns-22 c = ap said (c .at-offset10 .ensures) ∙ sym (ap refusalOf (c .before .enum-told6 .given .1))
+
 pub numbers-of-spec : {M : Type 1} → statement M
 numbers-of-spec =
     tie.close
@@ -229,6 +247,10 @@ numbers-of-spec =
     at-offset-requires-8
     enum-told-5
     at-offset-requires-9
+    enum-known-refusal-16
+    placed-requires-12
+    enum-told-6
+    at-offset-requires-10
     returns
     returns-2
     returns-3
@@ -248,4 +270,6 @@ numbers-of-spec =
     returns-17
     returns-18
     returns-19
-    returns-20)
+    returns-20
+    returns-21
+    returns-22)

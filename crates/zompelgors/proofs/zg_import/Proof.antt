@@ -1,0 +1,21 @@
+-- `zg_import` meets its contract: the job does, and its answer is flattened. Assumes nothing.
+use mathlib.Core.Path.{ap, _∙_}
+use Rattle.zompelgors.specs.Flat.{refusalFor}
+use borrow.Author.Needs.{needs}
+use Rattle.zompelgors.proofs.zg_import.Statement.{statement}
+use Rattle.zompelgors.proofs.zg_import.Tie as tie
+
+import-requires : tie.Need-import-requires
+import-requires c κs = search needs
+
+checked-requires : tie.Need-checked-requires
+checked-requires c κs = search needs
+
+same-length : tie.Need-same-length
+same-length c = search needs
+
+returns : tie.Need-returns
+returns c = let e = c .before .before .before .import .ensures in (c .checked .ensures ∙ ap refusalFor (e .0), e .1)
+
+pub zg-import-spec : {M : Type 1} → statement M
+zg-import-spec = tie.close (tie.spec import-requires checked-requires same-length returns)
