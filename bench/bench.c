@@ -19,22 +19,23 @@ struct implementation {
     __typeof__(&plain_decimation) decimation;
     __typeof__(&plain_import) import;
     __typeof__(&plain_export) export;
+    __typeof__(&plain_regions) regions;
     __typeof__(&plain_survivors) survivors;
     __typeof__(&plain_census) census;
 };
 
 static const struct implementation implementations[] = {
     {"library", zg_check, zg_add, zg_unfold, zg_read, zg_read_by_levels, zg_mark_cells, zg_take, zg_write,
-     zg_decimation, zg_import, zg_export, zg_survivors, zg_census},
+     zg_decimation, zg_import, zg_export, zg_regions, zg_survivors, zg_census},
     {"c", plain_check, plain_add, plain_unfold, plain_read, plain_read_by_levels, plain_mark_cells, plain_take,
-     plain_write, plain_decimation, plain_import, plain_export, plain_survivors, plain_census},
+     plain_write, plain_decimation, plain_import, plain_export, plain_regions, plain_survivors, plain_census},
     {"skipping", plain_check, plain_add, plain_unfold, plain_read, plain_read_by_levels_skipping, plain_mark_cells,
-     plain_take, plain_write, plain_decimation, plain_import, plain_export, plain_survivors, plain_census},
+     plain_take, plain_write, plain_decimation, plain_import, plain_export, plain_regions, plain_survivors, plain_census},
 };
 
 /* All that is lent. It is written once before anything is counted, so no page is touched for the first time then. */
 static struct pyramid map, lower, taken;
-static uint16_t table[ZG_MOST_ENTRIES], top[ZG_MOST_ENTRIES];
+static uint16_t table[ZG_MOST_ENTRIES], top[ZG_MOST_ENTRIES], names[ZG_MOST_DARTS];
 static uint8_t marks[ZG_MOST_DARTS], kernel[ZG_MOST_DARTS], record[ZG_MOST_RECORD];
 static uint8_t written[ZG_MOST_RECORD];
 static uint16_t edges[2048], vertices[2048], base[3 * 4096], partner_edges[2048], partner_vertices[2048];
@@ -134,6 +135,12 @@ static void run_export(const struct implementation *by)
     refusals += by->export(2, (uint16_t)(2 * m), base, 6 * m, partner_edges, m, partner_vertices, m).number;
 }
 
+/* The top level, with its check. */
+static void run_regions(const struct implementation *by)
+{
+    refusals += by->regions(PYRAMID, table, len, map.h, names, map.darts).number;
+}
+
 /* Every level. */
 static void run_survivors(const struct implementation *by)
 {
@@ -154,7 +161,8 @@ struct job {
 
 static const struct job jobs[] = {
     {"check", run_check}, {"add", run_add},   {"unfold", run_unfold}, {"read", run_read}, {"bylevels", run_by_levels},
-    {"mark", run_mark},   {"take", run_take}, {"write", run_write},   {"survivors", run_survivors},
+    {"mark", run_mark},   {"take", run_take}, {"write", run_write},   {"regions", run_regions},
+    {"survivors", run_survivors},
     {"decimation", run_decimation},
     {"census", run_census},
     {"import", run_import}, {"export", run_export},
@@ -209,6 +217,7 @@ static void set_up(const char *name)
     memset(words, 0, sizeof words);
     memset(cells, 0, sizeof cells);
     memset(sums, 0, sizeof sums);
+    memset(names, 0, sizeof names);
     memset(written, 0, sizeof written);
     make_partner();
 }

@@ -980,3 +980,47 @@ zg_refusal plain_export(uint8_t n, uint16_t darts, const uint16_t *rows, size_t 
     }
     return RESULT(zg_refusal, 0);
 }
+
+/* ---------------------------------------------------------------- regions */
+
+/* Names all darts that one reaches and that have no name yet. */
+static void name_region(unsigned n, unsigned darts, const uint16_t *rows, const uint8_t *lambda, const uint8_t *delta,
+                        unsigned level, unsigned start, uint16_t *names)
+{
+    uint16_t open[ZG_MOST_DARTS];
+    unsigned opens = 1;
+    open[0] = names[start] = (uint16_t)start;
+    while (opens) {
+        unsigned d = open[--opens], used = n + ((lambda[d] < level) & (delta[d] + 1u == n));
+        for (unsigned j = 0; j < used; j++) {
+            unsigned e = rows[j * darts + d];
+            if (names[e] == ZG_ABSENT) {
+                names[e] = (uint16_t)start;
+                open[opens++] = (uint16_t)e;
+            }
+        }
+    }
+}
+
+zg_refusal plain_regions(uint8_t n, uint16_t darts, uint8_t h, const uint16_t *rows, size_t rows_len,
+                         const uint8_t *lambda, size_t lambda_len, const uint8_t *delta, size_t delta_len,
+                         uint16_t *table, size_t table_len, uint8_t level, uint16_t *names, size_t names_len)
+{
+    unsigned bad = bad_size(n, darts, h);
+    if (bad || names_len != darts)
+        return RESULT(zg_refusal, (uint16_t)(bad ? bad : 4));
+    zg_refusal r = plain_check(n, darts, h, rows, rows_len, lambda, lambda_len, delta, delta_len, table, table_len);
+    if (r.number)
+        return r;
+    if (level > h)
+        return RESULT(zg_refusal, 11, level);
+    for (unsigned d = 0; d < darts; d++)
+        if (delta[d] > ZG_CONTRACT)
+            return RESULT(zg_refusal, 23, 0, 0, (uint16_t)d);
+    for (unsigned d = 0; d < darts; d++)
+        names[d] = ZG_ABSENT;
+    for (unsigned d = 0; d < darts; d++)
+        if (names[d] == ZG_ABSENT)
+            name_region(n, darts, rows, lambda, delta, level, d, names);
+    return r;
+}

@@ -1,8 +1,9 @@
-/* The jobs in plain C, to compare with: zompelgors.h says what each takes and does. */
+/* The jobs in plain C, to compare with: the two headers say what each takes and does. */
 #ifndef PLAIN_H
 #define PLAIN_H
 
 #include "zompelgors.h"
+#include "zompelgors_regions.h"
 
 #ifdef __cplusplus
 extern "C" {
@@ -25,6 +26,7 @@ __typeof__(zg_decimation) plain_decimation;
 __typeof__(zg_census) plain_census;
 __typeof__(zg_import) plain_import;
 __typeof__(zg_export) plain_export;
+__typeof__(zg_regions) plain_regions;
 
 /* As plain_read_by_levels, but passing at once over the levels on which a step finds its dart unchanged. */
 __typeof__(zg_read_by_levels) plain_read_by_levels_skipping;

@@ -1,7 +1,7 @@
 #!/bin/bash
 # Counts the x86-64 instructions that each job takes, in the library and in plain C at gcc -O3, in one run.
 #
-#   LIB    the library, default target/staticlib/libzompelgors.a
+#   LIB    the library, default target/staticlib/libzompelgors.a; REGIONS the second, beside it
 #   BUILD  where the programs are built, default target/bench
 #   CPU    the processor that is emulated, default qemu64
 #   JOBS   the jobs to measure, default all; MAPS the maps, default all
@@ -15,7 +15,7 @@ set -u
 source "$(dirname "$0")/../tests/tools.sh"
 BUILD=${BUILD:-target/bench} CPU=${CPU:-qemu64}
 maps=${MAPS:-"grid2 grid3 path32 grid4 strip voxels both1 both2 both3 both4 cycle vertex"}
-jobs=${JOBS:-"check add unfold read bylevels mark take write survivors decimation census import export"}
+jobs=${JOBS:-"check add unfold read bylevels mark take write regions survivors decimation census import export"}
 
 need_compiler
 [ "$LIB" != c ] || need "$binutils" "$OBJCOPY" --version
@@ -34,7 +34,7 @@ build() {
     for part in bench maps plain; do
         "$CC" "${cflags[@]}" -std=gnu11 -O3 -c "bench/$part.c" -o "$BUILD/$part.o" || return 1
     done
-    "$CC" -static "$BUILD/bench.o" "$BUILD/maps.o" "$BUILD/plain.o" -lc "$LIB" -o "$BUILD/bench" || return 1
+    "$CC" -static "$BUILD/bench.o" "$BUILD/maps.o" "$BUILD/plain.o" -lc "${LIBS[@]}" -o "$BUILD/bench" || return 1
     "$CC" "${cflags[@]}" -std=gnu11 -O3 bench/reads.c "$BUILD/maps.o" "$BUILD/plain.o" -o "$BUILD/reads"
 }
 build || exit 2
@@ -98,6 +98,8 @@ columns='%-10s %-22s %12s %12s %10s %8s %8s'
 printf "$columns %7s %5s\n" job "map (n, N, h)" library C "base reads" "lib/read" "C/read" ratio most
 for job in $jobs; do
     for map in $maps; do
+        # regions have names only where nothing is contracted
+        [[ $job/$map != regions/both* ]] || continue
         lib=$(own library "$job" "$map") && c=$(own c "$job" "$map") || exit 2
         read -r n darts h reads <"$BUILD/facts"
         printf '%-10s %-22s ' "$job" "$map ($n, $darts, $h)"
@@ -117,7 +119,7 @@ done
 echo
 echo "growth: instructions for each dart, library (C)"
 printf '%-8s %-8s %20s %20s %20s %20s\n' job map 512 1024 2048 4096
-for job in check unfold mark import export; do
+for job in check unfold mark import export regions; do
     for map in grid2 path32 strip vertex; do
         [[ $job != *port || $map = grid2 ]] || continue # only their size is of the map
         printf '%-8s %-8s' "$job" "$map"

@@ -16,7 +16,7 @@ extern "C" {
  * answers or is lent something else than before, MINOR when something is added, PATCH when neither is seen from here.
  */
 #define ZG_VERSION_MAJOR 5
-#define ZG_VERSION_MINOR 2
+#define ZG_VERSION_MINOR 3
 #define ZG_VERSION_PATCH 0
 #define ZG_VERSION (ZG_VERSION_MAJOR * 65536 + ZG_VERSION_MINOR * 256 + ZG_VERSION_PATCH)
 
@@ -95,7 +95,8 @@ enum zg_number {
     ZG_BYTES_AFTER = 19,   /* bytes after the record's end */
     ZG_FULL = 20,          /* a level is added at h = 32 */
     ZG_TWO_TO_ONE = 21,    /* a vertex row sends two darts to one */
-    ZG_NO_ROWS = 22        /* no two rows yield the base */
+    ZG_NO_ROWS = 22,       /* no two rows yield the base */
+    ZG_CONTRACTED = 23     /* region names: a dart is contracted (zompelgors_regions.h) */
 };
 
 typedef struct {
@@ -180,7 +181,8 @@ static inline const char *zg_refusal_text(uint16_t number)
         "bytes follow the end of the record",
         "a level is added at height 32",
         "a vertex row sends two darts to one",
-        "no two rows yield the base"
+        "no two rows yield the base",
+        "regions have names only in a pyramid without contraction"
     };
     return number < sizeof texts / sizeof texts[0] ? texts[number] : "no number of a refusal";
 }

@@ -82,6 +82,7 @@ static void read_item(struct call *c, char item)
     case 'S': c->sums = sums_list(&c->sums_len); break;
     case 'P': c->edges = list(&c->edges_len, 2); break;
     case 'V': c->vertices = list(&c->vertices_len, 2); break;
+    case 'N': c->names = list(&c->names_len, 2); break;
     }
 }
 
@@ -153,6 +154,7 @@ static void print_answer(const struct call *c)
         case 'S': print_i32(c->sums, c->sums_len); break;
         case 'P': print_u16(c->edges, c->edges_len); break;
         case 'V': print_u16(c->vertices, c->vertices_len); break;
+        case 'N': print_u16(c->names, c->names_len); break;
         }
     putchar('\n');
 }
@@ -170,6 +172,7 @@ static void free_call(struct call *c)
     free(c->words);
     free(c->cells);
     free(c->sums);
+    free(c->names);
 }
 
 int main(void)

@@ -2,6 +2,7 @@
 #define _GNU_SOURCE
 #include "call.h"
 #include "zompelgors.h"
+#include "zompelgors_regions.h"
 
 #include <stdbool.h>
 #include <stdio.h>
@@ -16,18 +17,18 @@ const char *const job_names[JOBS] = {
     [CHECK_BASE] = "check_base", [CHECK] = "check", [ADD] = "add", [MARKS] = "marks", [READ] = "read",
     [BY_LEVELS] = "bylevels", [UNFOLD] = "unfold", [ROW] = "row", [SURVIVORS] = "survivors", [MARK] = "mark",
     [TAKE] = "take", [WRITE] = "write", [DECIMATION] = "decimation", [IMPORT] = "import", [EXPORT] = "export",
-    [CENSUS] = "census", [LEVELS] = "levels", [CENSUS_PROGRAM] = "census_program"
+    [CENSUS] = "census", [REGIONS] = "regions", [LEVELS] = "levels", [CENSUS_PROGRAM] = "census_program"
 };
 const char *const case_forms[JOBS] = {
     [CHECK_BASE] = "nDR", [CHECK] = "nDhRLET", [ADD] = "nDhRLEMT", [MARKS] = "nDhLElM", [READ] = "nDhRLElid",
     [BY_LEVELS] = "nDhRLElid", [UNFOLD] = "nDhRLElT", [ROW] = "nDhRTli", [SURVIVORS] = "DhLlW", [MARK] = "nDTiM",
     [TAKE] = "BRLET", [WRITE] = "nDhRLETB", [DECIMATION] = "nDhRLETl", [IMPORT] = "DPVR", [EXPORT] = "nDRPV",
-    [CENSUS] = "nDhRLETCS", [LEVELS] = "B", [CENSUS_PROGRAM] = "B"
+    [CENSUS] = "nDhRLETCS", [REGIONS] = "nDhRLETlN", [LEVELS] = "B", [CENSUS_PROGRAM] = "B"
 };
 const char *const answer_forms[JOBS] = {
     [CHECK_BASE] = "", [CHECK] = "T", [ADD] = "LET", [MARKS] = "M", [READ] = "", [BY_LEVELS] = "", [UNFOLD] = "T",
     [ROW] = "", [SURVIVORS] = "W", [MARK] = "M", [TAKE] = "RLET", [WRITE] = "TB", [DECIMATION] = "FT", [IMPORT] = "R",
-    [EXPORT] = "PV", [CENSUS] = "TCS", [LEVELS] = "", [CENSUS_PROGRAM] = ""
+    [EXPORT] = "PV", [CENSUS] = "TCS", [REGIONS] = "TN", [LEVELS] = "", [CENSUS_PROGRAM] = ""
 };
 
 enum place call_place = BETWEEN_CANARIES;
@@ -43,12 +44,12 @@ struct lent {
 };
 
 enum { IN_ROWS, IN_TABLE, IN_LAMBDA, IN_DELTA, IN_MARKS, IN_BYTES, IN_WORDS, IN_CELLS, IN_SUMS, IN_EDGES,
-       IN_VERTICES, LENTS };
+       IN_VERTICES, IN_NAMES, LENTS };
 
 static struct lent lents[LENTS] = {
     {.name = "rows"}, {.name = "table"}, {.name = "lambda"}, {.name = "delta"},
     {.name = "marks"}, {.name = "bytes"}, {.name = "words"}, {.name = "cells"},
-    {.name = "sums"}, {.name = "edges"}, {.name = "vertices"},
+    {.name = "sums"}, {.name = "edges"}, {.name = "vertices"}, {.name = "names"},
 };
 
 static void fail(const struct call *c, const char *what, const char *name)
@@ -111,6 +112,7 @@ static const uint8_t *marks_in(const struct call *c) { return lend(IN_MARKS, c->
 static uint8_t *marks_out(const struct call *c) { return lend(IN_MARKS, c->marks, c->marks_len, 1, false); }
 static const uint8_t *bytes_in(const struct call *c) { return lend(IN_BYTES, c->bytes, c->bytes_len, 1, true); }
 static uint8_t *bytes_out(const struct call *c) { return lend(IN_BYTES, c->bytes, c->bytes_len, 1, false); }
+static uint16_t *names_out(const struct call *c) { return lend(IN_NAMES, c->names, c->names_len, 2, false); }
 static uint64_t *words_out(const struct call *c) { return lend(IN_WORDS, c->words, c->words_len, 8, false); }
 static uint16_t *cells_out(const struct call *c) { return lend(IN_CELLS, c->cells, c->cells_len, 2, false); }
 static int32_t *sums_out(const struct call *c) { return lend(IN_SUMS, c->sums, c->sums_len, 4, false); }
@@ -288,6 +290,17 @@ static void call_write(struct call *c)
     take_found(c, 1, r.length, 0, 0);
 }
 
+static void call_regions(struct call *c)
+{
+    const uint16_t *rows = rows_in(c);
+    const uint8_t *lambda = lambda_in(c), *delta = delta_in(c);
+    uint16_t *table = table_out(c), *names = names_out(c);
+    zg_refusal r = zg_regions((uint8_t)c->n, (uint16_t)c->darts, (uint8_t)c->h, rows, c->rows_len, lambda,
+                              c->lambda_len, delta, c->delta_len, table, c->table_len, (uint8_t)c->level, names,
+                              c->names_len);
+    take_refusal(c, r);
+}
+
 static void call_import(struct call *c)
 {
     const uint16_t *edges = edges_in(c), *vertices = vertices_in(c);
@@ -418,7 +431,7 @@ void call_job(struct call *c)
         [READ] = call_read, [BY_LEVELS] = call_by_levels, [UNFOLD] = call_unfold, [ROW] = call_row,
         [SURVIVORS] = call_survivors, [MARK] = call_mark, [TAKE] = call_take, [WRITE] = call_write,
         [DECIMATION] = call_decimation, [IMPORT] = call_import, [EXPORT] = call_export, [CENSUS] = call_census,
-        [LEVELS] = call_levels, [CENSUS_PROGRAM] = call_census_program,
+        [REGIONS] = call_regions, [LEVELS] = call_levels, [CENSUS_PROGRAM] = call_census_program,
     };
     c->founds = 0;
     c->factor = 0;

@@ -9,7 +9,7 @@ namespace {
 
 // ---------------------------------------------------------------- what occurred
 
-constexpr unsigned numbers = 23;
+constexpr unsigned numbers = 24;
 
 // The numbers that each job can give, 0 for accepted.
 const std::vector<unsigned> possible[JOBS] = {
@@ -29,6 +29,7 @@ const std::vector<unsigned> possible[JOBS] = {
     {0, 2, 4, 5, 6, 21},
     {0, 1, 2, 4, 5, 6, 7, 22},
     {0, 1, 2, 3, 4, 5, 6, 7, 8, 9, 10},
+    {0, 1, 2, 3, 4, 5, 6, 7, 8, 9, 10, 11, 23},
     {0, 1, 2, 3, 5, 6, 7, 8, 9, 10, 16, 17, 18, 19},
     {0, 1, 2, 3, 5, 6, 7, 8, 9, 10, 16, 17, 18, 19},
 };

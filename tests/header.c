@@ -1,5 +1,7 @@
-/* The header alone, as C99 and as C++11: layouts, texts, and that header and archive are of one version. */
+/* The two headers and the two archives, as C99 and as C++11: layouts, texts, that header and archive are of one
+ * version, and that both archives are linked side by side. */
 #include "zompelgors.h"
+#include "zompelgors_regions.h"
 
 #include <stdio.h>
 #include <string.h>
@@ -53,14 +55,20 @@ static int fail(const char *what)
 int main(void)
 {
     uint16_t k, other;
+    const uint16_t rows[4] = {1, 0, 0, 1};
+    const uint8_t lambda[2] = {1, 0}, delta[2] = {1, 0};
+    uint16_t table[4], names[2] = {9, 9};
     if (zg_version() != ZG_VERSION)
         return fail("the archive is of another version than the header");
-    for (k = ZG_ACCEPTED; k <= ZG_NO_ROWS; k++)
+    for (k = ZG_ACCEPTED; k <= ZG_CONTRACTED; k++)
         for (other = 0; other < k; other++)
             if (!strcmp(zg_refusal_text(k), zg_refusal_text(other)))
                 return fail("two numbers have one text");
-    if (strcmp(zg_refusal_text(ZG_NO_ROWS + 1), zg_refusal_text(65535)))
+    if (strcmp(zg_refusal_text(ZG_CONTRACTED + 1), zg_refusal_text(65535)))
         return fail("a text for a number that is none");
-    printf("version %d.%d.%d, %d numbers\n", ZG_VERSION_MAJOR, ZG_VERSION_MINOR, ZG_VERSION_PATCH, ZG_NO_ROWS);
+    if (zg_check(1, 2, 1, rows, 4, lambda, 2, delta, 2, table, 4).number ||
+        zg_regions(1, 2, 1, rows, 4, lambda, 2, delta, 2, table, 4, 1, names, 2).number || names[0] || names[1])
+        return fail("the two archives don't go together");
+    printf("version %d.%d.%d, %d numbers\n", ZG_VERSION_MAJOR, ZG_VERSION_MINOR, ZG_VERSION_PATCH, ZG_CONTRACTED);
     return 0;
 }

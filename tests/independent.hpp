@@ -846,6 +846,38 @@ inline void export_map(unsigned n, unsigned darts, const Entries& rows, Entries&
     vertices = to_vertices;
 }
 
+// ---------------------------------------------------------------- regions
+
+// Every dart takes the lowest name near it, until none changes.
+inline Entries lowest_reached(const Map& base, const Bytes& lambda, const Bytes& delta, unsigned level)
+{
+    const auto over = [&](unsigned d) { return lambda[d] < level && delta[d] + 1u == base.n; };
+    Entries names(base.darts);
+    std::iota(names.begin(), names.end(), std::uint16_t(0));
+    for (bool changed = true; changed;) {
+        changed = false;
+        for (unsigned d = 0; d < base.darts; d++)
+            for (unsigned i = 0; i < base.n + over(d); i++)
+                if (names[base.a[i][d]] < names[d]) {
+                    names[d] = names[base.a[i][d]];
+                    changed = true;
+                }
+    }
+    return names;
+}
+
+inline void regions(unsigned n, unsigned darts, unsigned h, const Entries& rows, const Bytes& lambda,
+                    const Bytes& delta, Entries& table, unsigned level, Entries& names)
+{
+    demand_pyramid_lengths(n, darts, h, rows, lambda, delta);
+    demand_length(names.size(), darts);
+    check(n, darts, h, rows, lambda, delta, table);
+    demand(level <= h, 11, level);
+    for (unsigned d = 0; d < darts; d++)
+        demand(mark_of(n, delta[d]).kind != Kind::contraction, 23, 0, 0, d);
+    names = lowest_reached(Map(n, darts, rows), lambda, delta, level);
+}
+
 // What the program levels prints, its lines joined by " / ".
 inline std::string levels(const Bytes& bytes)
 {

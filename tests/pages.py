@@ -12,7 +12,7 @@ from pathlib import Path
 ROOT = Path(__file__).resolve().parent.parent
 CRATES = ROOT / "crates"
 # the definitions that the answers of the jobs are read by; all else that a contract cites is in crates/maps/specs
-ANSWERS = ["answers/specs/Numbers", "answers/specs/Marked", "answers/specs/Lent", "questions/specs/Answers", "reading/specs/Answers", "rows/specs/Answers", "checking/specs/Answers", "records/specs/Answers", "taking/specs/Answers", "writing/specs/Answers", "shrinking/specs/Answers", "zompelgors/specs/Flat"]
+ANSWERS = ["answers/specs/Numbers", "answers/specs/Marked", "answers/specs/Lent", "questions/specs/Answers", "reading/specs/Answers", "rows/specs/Answers", "checking/specs/Answers", "records/specs/Answers", "taking/specs/Answers", "writing/specs/Answers", "shrinking/specs/Answers", "zompelgors/specs/Flat", "zompelgors_regions/specs/Flat"]
 
 
 def public_functions(crate):
@@ -73,16 +73,17 @@ def spelt(variant):
 
 def header_differences():
     header = (ROOT / "include" / "zompelgors.h").read_text()
-    refusals = re.search(r"pub enum Refusal \{(.*?)\}", (CRATES / "answers" / "src" / "lib.rt").read_text(), re.S)[1]
-    due = ["ZG_ACCEPTED"] + [spelt(name) for name in re.findall(r"^ +(\w+)", refusals, re.M)]
-    if re.findall(r"^ +(ZG_\w+) = (\d+)", header, re.M) != [(name, str(k)) for k, name in enumerate(due)]:
+    numbers = (CRATES / "answers" / "specs" / "Numbers.antt").read_text()
+    due = [("ZG_ACCEPTED", "0")] + [(spelt(name), k) for name, k in re.findall(r"^refusalOf \(?(\w+).* = refused (\d+)", numbers, re.M)]
+    if re.findall(r"^ +(ZG_\w+) = (\d+)", header, re.M) != due:
         yield "include/zompelgors.h names the numbers otherwise than crates/answers does"
     parts = re.findall(r"^#define ZG_VERSION_(?:MAJOR|MINOR|PATCH) (\d+)", header, re.M)
     if f"versionFor {' '.join(parts)} " not in (CRATES / "zompelgors" / "src" / "lib.rt").read_text():
         yield "include/zompelgors.h and zg_version are of two versions"
-    for number, line in enumerate(header.split("\n"), 1):
-        if len(line) > 120:
-            yield f"include/zompelgors.h:{number} is over 120 columns wide"
+    for path in sorted((ROOT / "include").glob("*.h")):
+        for number, line in enumerate(path.read_text().split("\n"), 1):
+            if len(line) > 120:
+                yield f"include/{path.name}:{number} is over 120 columns wide"
 
 
 def cited_differences():

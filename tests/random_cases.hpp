@@ -244,6 +244,7 @@ inline void fit_lengths(Case& c)
         case 'L': c.lambda.resize(c.darts); break;
         case 'E': c.delta.resize(c.darts); break;
         case 'M': c.marks.resize(c.darts); break;
+        case 'N': c.names.resize(c.darts); break;
         }
 }
 
@@ -290,6 +291,7 @@ inline void damage_item(Random& r, Case& c, char item)
     case 'S': change_length(r, c.sums); break;
     case 'P': damage_partner(r, c, c.edges); break;
     case 'V': damage_partner(r, c, c.vertices); break;
+    case 'N': change_length(r, c.names); break;
     }
 }
 
@@ -450,6 +452,7 @@ inline void lend_pyramid(Random& r, Case& c, const Pyramid& source)
     c.words = junk<Words>(r, 64);
     c.cells = junk<Entries>(r, 165);
     c.sums = junk<Sums>(r, 33);
+    c.names = junk<Entries>(r, p.darts);
 }
 
 inline void lend_level(Random& r, Case& c, const Pyramid& source)
@@ -553,6 +556,8 @@ inline void drop_the_rest(Case& c)
         c.edges.clear();
     if (!takes('V'))
         c.vertices.clear();
+    if (!takes('N'))
+        c.names.clear();
 }
 
 inline Case random_case(Random& r, const Pyramid& source)

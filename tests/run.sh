@@ -2,7 +2,7 @@
 # Compares the library with the vectors, with an independent implementation and with CGAL, builds and runs the examples,
 # runs the Rust tests, and holds the pages of docs/ to the sources. tests/README.md says what each part is.
 #
-#   LIB       the library, default target/staticlib/libzompelgors.a
+#   LIB       the library, default target/staticlib/libzompelgors.a; REGIONS the second, beside it
 #   COUNT     random cases, default 1,000,000; SEED the first seed, default 1
 #   PYRAMIDS  pyramids compared with CGAL, default 5,000
 #   BUILD     where the programs are built, default target/tests
@@ -88,12 +88,12 @@ vectors() {
 # ---------------------------------------------------------------- the header
 
 if can "header as C99" "${for_c[@]}" &&
-    built "header as C99" "$CC" -std=c99 "${strict[@]}" tests/header.c "$LIB" -o "$BUILD/header_c"; then
+    built "header as C99" "$CC" -std=c99 "${strict[@]}" tests/header.c "${LIBS[@]}" -o "$BUILD/header_c"; then
     report "header as C99" "$BUILD/header_c.txt" "${run[@]}" "$BUILD/header_c"
 fi
 if can "header as C++11" "${for_cxx[@]}" &&
     built "header as C++11" \
-        "$CXX" -std=c++11 "${strict[@]}" -x c++ tests/header.c -x none "$LIB" -o "$BUILD/header_cxx"; then
+        "$CXX" -std=c++11 "${strict[@]}" -x c++ tests/header.c -x none "${LIBS[@]}" -o "$BUILD/header_cxx"; then
     report "header as C++11" "$BUILD/header_cxx.txt" "${run[@]}" "$BUILD/header_cxx"
 fi
 
@@ -105,9 +105,11 @@ for cases in tests/vectors/*.cases; do
     names+=("${name%.cases}")
 done
 build_call() { "$CC" "${cflags[@]}" -O2 -c tests/call.c -o "$BUILD/call.o"; }
-build_answer() { build_call && "$CC" "${cflags[@]}" -O2 tests/answer.c "$BUILD/call.o" "$LIB" -o "$BUILD/answer"; }
+build_answer() {
+    build_call && "$CC" "${cflags[@]}" -O2 tests/answer.c "$BUILD/call.o" "${LIBS[@]}" -o "$BUILD/answer"
+}
 build_compare() {
-    build_call && "$CXX" "${cxxflags[@]}" -O2 tests/compare.cpp "$BUILD/call.o" "$LIB" -o "$BUILD/compare"
+    build_call && "$CXX" "${cxxflags[@]}" -O2 tests/compare.cpp "$BUILD/call.o" "${LIBS[@]}" -o "$BUILD/compare"
 }
 
 if can "vectors, library" "${for_c[@]}" && built "vectors, library" build_answer; then
@@ -182,6 +184,18 @@ if can "combinatorial map in C" "${for_c[@]}" &&
     same "combinatorial map in C" "$BUILD/partner.txt" examples/partner.stdout "${run[@]}" "$BUILD/partner"
 fi
 
+# housing: the second library's example on a block of voxels with a cavity, and on a pipe with contracted edges.
+housing() {
+    "$@" samples/voxels.record
+    "$@" samples/pipe.record
+    return 0
+}
+if can "example of regions" "${for_c[@]}" &&
+    built "example of regions" \
+        "$CC" -std=c99 "${strict[@]}" -O2 examples/regions.c "${LIBS[@]}" -o "$BUILD/regions"; then
+    same "example of regions" "$BUILD/regions.txt" examples/regions.stdout housing "${run[@]}" "$BUILD/regions"
+fi
+
 # Rust programs are linked and run as the C ones are.
 cargo_for_library() {
     local command=$1
@@ -196,15 +210,15 @@ cargo_for_library() {
 # rust_tests: all their results in one last line.
 rust_tests() {
     local out=$BUILD/cargo.txt
-    cargo_for_library test >"$out" 2>&1
+    cargo_for_library test --features regions >"$out" 2>&1
     local code=$?
     cat "$out"
     [ $code -ne 0 ] || awk '/^test result/ { p += $4; f += $6 } END { print p " passed, " f " failed" }' "$out"
     return $code
 }
 folder_of_library=$(cd "$(dirname "$LIB")" && pwd) cargo_target=$(cd "$BUILD" && pwd)/rust
-if [ "${LIB##*/}" != libzompelgors.a ]; then
-    echo "Rust: left out, it links libzompelgors.a alone"
+if [ "${LIB##*/}" != libzompelgors.a ] || [ "$(dirname "$LIB")" != "$(dirname "$REGIONS")" ]; then
+    echo "Rust: left out, it links libzompelgors.a and the second archive beside it alone"
     left_out=$((left_out + 1))
 elif can "Rust" cargo "$TARGET" "${for_c[@]}"; then
     report "Rust tests" "$BUILD/rust.txt" rust_tests

@@ -1,10 +1,11 @@
 # What the two run.sh have in common: the tools for x86-64 programs on this machine, and the library. To be sourced.
 #
-# LIB is the library to link; LIB=c puts the plain C of bench/ in its place, to try the tests and the C themselves.
+# LIB is the library to link, REGIONS the second one; LIB=c puts the plain C of bench/ in their place, to try the tests
+# and the C themselves.
 
 root=$(cd "$(dirname "${BASH_SOURCE[0]}")/.." && pwd)
 cd "$root" || exit 2
-LIB=${LIB:-target/staticlib/libzompelgors.a}
+LIB=${LIB:-target/staticlib/libzompelgors.a} REGIONS=${REGIONS:-target/staticlib/libzompelgors_regions.a}
 
 # for_c, for_cxx: the packages that it takes to build a program of that language and run it.
 if [ "$(uname -m)" = x86_64 ] && [ -z "${EMULATE:-}" ]; then
@@ -66,20 +67,26 @@ can() {
     return 1
 }
 
-# library DIRECTORY: makes sure that there is a library to link, and sets LIB to it.
+# library DIRECTORY: makes sure that there are both libraries to link, and sets LIBS to them.
 library() {
     if [ "$LIB" = c ]; then
         local job rename=(--redefine-sym plain_read_by_levels_skipping=zg_skipping)
         for job in version check_base check add marks_of read read_by_levels unfold row survivors mark_cells take write decimation census \
-            import export; do
+            import export \
+            regions; do
             rename+=(--redefine-sym "plain_$job=zg_$job")
         done
         "$CC" "${cflags[@]}" -O3 -c bench/plain.c -o "$1/standin.o" || exit 2
         "$OBJCOPY" "${rename[@]}" "$1/standin.o" || exit 2
-        LIB=$1/standin.o
+        LIB=$1/standin.o LIBS=("$1/standin.o")
         echo "the plain C of bench/ stands in the library's place"
-    elif [ ! -f "$LIB" ]; then
-        echo "there is no $LIB; 'rt staticlib zompelgors' makes target/staticlib/libzompelgors.a" >&2
-        exit 2
+        return
     fi
+    LIBS=("$LIB" "$REGIONS")
+    local archive
+    for archive in "${LIBS[@]}"; do
+        [ ! -f "$archive" ] || continue
+        echo "there is no $archive; 'rt staticlib zompelgors' and 'rt staticlib zompelgors_regions' make both" >&2
+        exit 2
+    done
 }

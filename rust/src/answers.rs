@@ -32,8 +32,11 @@ pub struct Refusal {
     pub dart: u16,
 }
 
+/// Of a number that no refusal has.
+const NO_NUMBER: &str = "no number of a refusal";
+
 /// What each number says; the header's `zg_refusal_text` has the same phrases.
-const TEXTS: [&str; 23] = [
+const TEXTS: [&str; 24] = [
     "accepted",
     "the dimension is not 1 to 4, or not 2 for a combinatorial map",
     "the number of darts is not 1 to 4096, or 1 to 2048 of a combinatorial map",
@@ -57,13 +60,14 @@ const TEXTS: [&str; 23] = [
     "a level is added at height 32",
     "a vertex row sends two darts to one",
     "no two rows yield the base",
+    "regions have names only in a pyramid without contraction",
 ];
 
 impl Refusal {
     /// What the number says, in a phrase.
     pub fn text(&self) -> &'static str {
         let text = TEXTS.get(usize::from(self.number));
-        text.copied().unwrap_or("no number of a refusal")
+        text.copied().unwrap_or(NO_NUMBER)
     }
 }
 

@@ -22,6 +22,8 @@
 //! # Ok::<(), zompelgors::Refusal>(())
 //! ```
 //!
+//! With the feature `regions` the second library is there too: the module `regions`.
+//!
 //! A level is no dimension:
 //!
 //! ```compile_fail,E0308
@@ -36,6 +38,8 @@ mod answers;
 mod owned;
 mod pyramid;
 pub mod raw;
+#[cfg(feature = "regions")]
+pub mod regions;
 
 pub use answers::{Dimension, Factor, Header, Level, Link, Reading, Refusal, Unfolding};
 pub use owned::PyramidBuf;

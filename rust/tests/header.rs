@@ -27,7 +27,7 @@ fn phrases() {
     let (_, table) = header.split_once("texts[] = {").unwrap();
     let (table, _) = table.split_once("};").unwrap();
     let texts: Vec<&str> = table.split('"').skip(1).step_by(2).collect();
-    assert_eq!(texts.len(), 23);
+    assert_eq!(texts.len(), 24);
     for (number, text) in texts.into_iter().enumerate() {
         let refusal = Refusal {
             number: number as u16,

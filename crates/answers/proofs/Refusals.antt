@@ -5,7 +5,7 @@ use Rattle.maps.specs.Verdict.{Verdict, accepted, refused, ifAccepted, _then_}
 use Rattle.answers.specs.Numbers.{refusalOf, verdictOf}
 use Rattle.answers.specs.declared.Check.{Check}
 use Rattle.answers.specs.declared.Refusal.{Refusal}
-use Rattle.answers.specs.declared.Refusal.the-variants.{Dimension, Darts, Height, Length, Strays, NotTwice, NotCommuting, Marks, NotWhole, NotRemovable, NoLevel, NoDart, NoInvolution, NoPass, TooLong, EndsEarly, OtherTag, WrongLength, BytesAfter, Full, TwoToOne, NoRows}
+use Rattle.answers.specs.declared.Refusal.the-variants.{Dimension, Darts, Height, Length, Strays, NotTwice, NotCommuting, Marks, NotWhole, NotRemovable, NoLevel, NoDart, NoInvolution, NoPass, TooLong, EndsEarly, OtherTag, WrongLength, BytesAfter, Full, TwoToOne, NoRows, Contracted}
 
 pub record Refuses (v : Verdict) : Type 0 where
   pub number : ℕ
@@ -40,6 +40,7 @@ refusal-refuses (BytesAfter x) = refuses 19 0 0 x
 refusal-refuses Full = refuses 20 0 0 0
 refusal-refuses (TwoToOne d) = refuses 21 0 1 d
 refusal-refuses NoRows = refuses 22 0 0 0
+refusal-refuses (Contracted d) = refuses 23 0 0 d
 
 -- what comes after a refusal is not looked at
 pub refused-then : (r : Refusal) (v w : Verdict) → refusalOf r ≡ v → refusalOf r ≡ v then w

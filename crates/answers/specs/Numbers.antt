@@ -1,7 +1,7 @@
 -- The document's number and values for each answer. Assumes nothing: these are definitions.
 use Rattle.maps.specs.Verdict.{Verdict, accepted, refused}
 use Rattle.answers.specs.declared.Refusal.{Refusal}
-use Rattle.answers.specs.declared.Refusal.the-variants.{Dimension, Darts, Height, Length, Strays, NotTwice, NotCommuting, Marks, NotWhole, NotRemovable, NoLevel, NoDart, NoInvolution, NoPass, TooLong, EndsEarly, OtherTag, WrongLength, BytesAfter, Full, TwoToOne, NoRows}
+use Rattle.answers.specs.declared.Refusal.the-variants.{Dimension, Darts, Height, Length, Strays, NotTwice, NotCommuting, Marks, NotWhole, NotRemovable, NoLevel, NoDart, NoInvolution, NoPass, TooLong, EndsEarly, OtherTag, WrongLength, BytesAfter, Full, TwoToOne, NoRows, Contracted}
 use Rattle.answers.specs.declared.Numbers.{Numbers}
 use Rattle.answers.specs.declared.Check.{Check}
 use Rattle.answers.specs.declared.Check.the-variants.{Accepted, Refused}
@@ -30,6 +30,7 @@ refusalOf (BytesAfter offset) = refused 19 0 0 offset
 refusalOf Full = refused 20 0 0 0
 refusalOf (TwoToOne d) = refused 21 0 1 d
 refusalOf NoRows = refused 22 0 0 0
+refusalOf (Contracted d) = refused 23 0 0 d
 
 abbrev pub verdictOf : Check → Verdict
 verdictOf Accepted = accepted

@@ -71,6 +71,7 @@ pub enum Refusal {
     Full,
     TwoToOne(u16),
     NoRows,
+    Contracted(u16),
 }
 
 // The answer of a check.
@@ -138,5 +139,6 @@ pub fn numbers_of(refusal: Refusal) -> Numbers
         Refusal::Full => at_offset(20, 0),
         Refusal::TwoToOne(d) => placed(21, Level(0), Dim(1), d),
         Refusal::NoRows => at_offset(22, 0),
+        Refusal::Contracted(d) => at_offset(23, d),
     }
 }

@@ -32,4 +32,5 @@ pub mod Write
 pub mod Decimation
 pub mod Census
 pub mod Partner
+pub mod Regions
 pub mod Accepted

@@ -9,7 +9,7 @@ use Rattle.answers.specs.Numbers.{refusalOf, verdictOf, said}
 use Rattle.answers.specs.declared.Level.{Level}
 use Rattle.answers.specs.declared.Dim.{Dim}
 use Rattle.answers.specs.declared.Refusal.{Refusal}
-use Rattle.answers.specs.declared.Refusal.the-variants.{Dimension, Darts, Height, Length, Strays, NotTwice, NotCommuting, Marks, NotWhole, NotRemovable, NoLevel, NoDart, NoInvolution, NoPass, TooLong, EndsEarly, OtherTag, WrongLength, BytesAfter, Full, TwoToOne, NoRows}
+use Rattle.answers.specs.declared.Refusal.the-variants.{Dimension, Darts, Height, Length, Strays, NotTwice, NotCommuting, Marks, NotWhole, NotRemovable, NoLevel, NoDart, NoInvolution, NoPass, TooLong, EndsEarly, OtherTag, WrongLength, BytesAfter, Full, TwoToOne, NoRows, Contracted}
 use Rattle.answers.specs.declared.Numbers.{Numbers}
 use Rattle.answers.specs.declared.Check.{Check}
 use Rattle.answers.specs.declared.Check.the-variants.{Accepted, Refused}
@@ -53,7 +53,7 @@ refusalFrom k l i d =
     (cond (eqb k 11) (NoLevel (level l) (dimension i) d) (cond (eqb k 12) (NoDart (level l) (dimension i) d) (cond (eqb k 13) (NoInvolution (level l) (dimension i) d)
     (cond (eqb k 14) (NoPass (level l) (dimension i) d) (cond (eqb k 15) (TooLong (level l) (dimension i) d)
     (cond (eqb k 16) (EndsEarly d) (cond (eqb k 17) (OtherTag d) (cond (eqb k 18) (WrongLength d) (cond (eqb k 19) (BytesAfter d)
-    (cond (eqb k 20) Full (cond (eqb k 21) (TwoToOne d) NoRows))))))))))))))))))))
+    (cond (eqb k 20) Full (cond (eqb k 21) (TwoToOne d) (cond (eqb k 22) NoRows (Contracted d))))))))))))))))))))))
 
 -- a refusal's values tell it, whatever holds it
 pub refusal-told : {A : Type 0} (from : Verdict → A) (holding : Refusal → A) → ((k l i d : ℕ) → from (refused k l i d) ≡ holding (refusalFrom k l i d)) → (r : Refusal) → from (refusalOf r) ≡ holding r
@@ -79,6 +79,7 @@ refusal-told from holding is (BytesAfter offset) = is 19 0 0 offset
 refusal-told from holding is Full = is 20 0 0 0
 refusal-told from holding is (TwoToOne d) = is 21 0 1 d
 refusal-told from holding is NoRows = is 22 0 0 0
+refusal-told from holding is (Contracted d) = is 23 0 0 d
 
 -- one value where accepted, else one that holds the refusal
 abbrev pub fromVerdict : {A : Type 0} → A → (Refusal → A) → Verdict → A

@@ -1,4 +1,4 @@
--- Each function of the C interface leaves one outcome for each input. Assumes nothing.
+-- Each function of the two C interfaces leaves one outcome for each input. Assumes nothing.
 use mathlib.Core.Path.{refl, ap, sym, _∙_}
 use contract.Lifetimes.{Lfts}
 use denote.Ref.{now}
@@ -22,9 +22,11 @@ use Rattle.counting.proofs.OneCensus.{put-leaves-one}
 use Rattle.zompelgors.proofs.zg_import.Reads as import-map
 use Rattle.zompelgors.proofs.zg_export.Reads as export-map
 use Rattle.zompelgors.specs.Flat.{refusalFor}
+use Rattle.zompelgors_regions.proofs.zg_regions.Reads as regions
 use Rattle.outcomes.proofs.One.{OneOutcome, one-outcome, nothing, three, same-three, four, same-four, pair, same-pair}
 use Rattle.outcomes.proofs.Cells.{marking-same}
 use Rattle.outcomes.proofs.Partner.{import-same, export-same}
+use Rattle.outcomes.proofs.Regions.{naming-same}
 
 pub zg-version-one : (κs : Lfts 0) → OneOutcome (version.Learnt κs) (λ r. r) nothing
 zg-version-one κs = one-outcome _ _ _ (λ a r. r) (λ r. r) (λ a r. refl) _ _ (λ a r s c. (c, refl))
@@ -92,3 +94,8 @@ pub zg-export-one : (κs : Lfts 3) → OneOutcome (export-map.Learnt κs) (λ r.
 zg-export-one κs a r r′ s s′ c c′ =
     let e = export-same (a .0) (a .1 .0) (now (a .1 .1 .0)) (now (a .1 .1 .1 .0)) (now (a .1 .1 .1 .1 .0)) (c .0) (c′ .0) _ _ _ _ (c .2) (c′ .2) in
     (c .1 ∙ ap refusalFor (e .0) ∙ sym (c′ .1), same-pair (e .1) (e .2))
+
+-- the table and the name row
+pub zg-regions-one : (κs : Lfts 5) → OneOutcome (regions.Learnt κs) (λ r. r) (λ s. pair (now (s .1 .1 .1 .1 .1 .1 .0)) (now (s .1 .1 .1 .1 .1 .1 .1 .1 .0)))
+zg-regions-one κs a r r′ s s′ c c′ =
+    (c .0 ∙ sym (c′ .0), same-pair (c .1 .0 ∙ sym (c′ .1 .0)) (naming-same (a .0) (a .1 .0) (a .1 .1 .0) (now (a .1 .1 .1 .0)) (now (a .1 .1 .1 .1 .0)) (now (a .1 .1 .1 .1 .1 .0)) (now (a .1 .1 .1 .1 .1 .1 .0)) (a .1 .1 .1 .1 .1 .1 .1 .0) (now (a .1 .1 .1 .1 .1 .1 .1 .1 .0)) _ _ (c .1 .1) (c′ .1 .1)))

@@ -43,10 +43,12 @@ use Rattle.counting.proofs.census_into.Reads as census-into
 use Rattle.counting.proofs.OneCensus.{leaves-one, put-leaves-one}
 use Rattle.partner.proofs.import.Reads as import-map
 use Rattle.partner.proofs.export.Reads as export-map
+use Rattle.regions.proofs.name_regions.Reads as name-regions
 use Rattle.outcomes.proofs.One.{OneOutcome, one-outcome, nothing, three, same-three, four, same-four, pair, same-pair}
 use Rattle.outcomes.proofs.Answers.{checkFrom, check-told, readingFrom, reading-told, valuesOfLink, linkFrom, link-told, valuesOfTotal, totalFrom, total-told, valuesOfSurvivors, survivorsFrom, survivors-told, valuesOfAdded, addedFrom, added-told, takenFrom, taken-told, writtenFrom, written-told, factorFrom, factor-told, numbersFrom, numbers-told}
 use Rattle.outcomes.proofs.Cells.{marking-same}
 use Rattle.outcomes.proofs.Partner.{import-same, export-same}
+use Rattle.outcomes.proofs.Regions.{naming-same}
 
 pub check-base-one : (κs : Lfts 1) → OneOutcome (check-base.Learnt κs) (λ r. r) nothing
 check-base-one κs = one-outcome _ _ _ (λ a. verdictOf) checkFrom (λ a. check-told) _ _ (λ a r s c. (c, refl))
@@ -139,6 +141,11 @@ pub export-one : (κs : Lfts 3) → OneOutcome (export-map.Learnt κs) (λ r. r)
 export-one κs a r r′ s s′ c c′ =
     let e = export-same (a .0 .0) (a .1 .0) (now (a .1 .1 .0)) (now (a .1 .1 .1 .0)) (now (a .1 .1 .1 .1 .0)) (verdictOf r) (verdictOf r′) _ _ _ _ c c′ in
     (sym (check-told r) ∙ ap checkFrom (e .0) ∙ check-told r′, same-pair (e .1) (e .2))
+
+-- the table, and the name row, of which the contract says for each dart what its name is
+pub name-regions-one : (κs : Lfts 5) → OneOutcome (name-regions.Learnt κs) (λ r. r) (λ s. pair (now (s .1 .1 .1 .1 .1 .1 .0)) (now (s .1 .1 .1 .1 .1 .1 .1 .1 .0)))
+name-regions-one κs a r r′ s s′ c c′ =
+    (sym (check-told r) ∙ ap checkFrom (c .0 ∙ sym (c′ .0)) ∙ check-told r′, same-pair (c .1 .0 ∙ sym (c′ .1 .0)) (naming-same (a .0 .0) (a .1 .0) (a .1 .1 .0 .0) (now (a .1 .1 .1 .0)) (now (a .1 .1 .1 .1 .0)) (now (a .1 .1 .1 .1 .1 .0)) (now (a .1 .1 .1 .1 .1 .1 .0)) (a .1 .1 .1 .1 .1 .1 .1 .0 .0) (now (a .1 .1 .1 .1 .1 .1 .1 .1 .0)) _ _ (c .1 .1) (c′ .1 .1)))
 
 -- what jobs share
 pub sizes-one : (κs : Lfts 0) → OneOutcome (sizes.Learnt κs) (λ r. r) nothing

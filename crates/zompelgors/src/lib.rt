@@ -372,12 +372,12 @@ fn factor_as(answer: shrinking::Factor) -> ZgFactor
     }
 }
 
-// The version of this interface: 5.2.0.
+// The version of this interface: 5.3.0.
 #[no_mangle]
 pub extern "C" fn zg_version() -> u32
-    ensures { λ r. ⌜ r ≡ versionFor 5 2 0 ⌝ }
+    ensures { λ r. ⌜ r ≡ versionFor 5 3 0 ⌝ }
 {
-    328192
+    328448
 }
 
 // Checks a base.

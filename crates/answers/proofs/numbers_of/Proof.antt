@@ -137,6 +137,12 @@ enum-told-6 c = search needs
 at-offset-requires-10 : tie.Need-at-offset-requires-10
 at-offset-requires-10 c κs = search needs
 
+enum-known-refusal-17 : tie.Need-enum-known-refusal-17
+enum-known-refusal-17 c = search needs
+
+at-offset-requires-11 : tie.Need-at-offset-requires-11
+at-offset-requires-11 c κs = search needs
+
 returns : tie.Need-returns
 returns c = ap said (c .at-offset .ensures) ∙ sym (ap refusalOf (c .before .enum-told .given .1))
 
@@ -203,6 +209,9 @@ returns-21 c = ap said (c .placed12 .ensures) ∙ sym (ap refusalOf (c .before .
 returns-22 : tie.Need-returns-22
 returns-22 c = ap said (c .at-offset10 .ensures) ∙ sym (ap refusalOf (c .before .enum-told6 .given .1))
 
+returns-23 : tie.Need-returns-23
+returns-23 c = ap said (c .at-offset11 .ensures) ∙ sym (ap refusalOf (c .before .before .refusal17 .given .1))
+
 pub numbers-of-spec : {M : Type 1} → statement M
 numbers-of-spec =
     tie.close
@@ -251,6 +260,8 @@ numbers-of-spec =
     placed-requires-12
     enum-told-6
     at-offset-requires-10
+    enum-known-refusal-17
+    at-offset-requires-11
     returns
     returns-2
     returns-3
@@ -272,4 +283,5 @@ numbers-of-spec =
     returns-19
     returns-20
     returns-21
-    returns-22)
+    returns-22
+    returns-23)

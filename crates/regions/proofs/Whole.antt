@@ -1,0 +1,118 @@
+-- Laws of a whole naming: what is answered and left behind, test by test. Assumes nothing.
+use mathlib.Core.Path.{_≡_, refl, sym, _∙_}
+use mathlib.Core.Bool.{true, false, _&&_}
+use mathlib.Core.List.{List}
+use Prim.Native.Nat.{ℕ, suc, _*_, _≤_, _<_}
+use lib.ListN.{length}
+use borrow.Author.Tests.{lt-ltb, le-ltb}
+use Rattle.maps.specs.Verdict.{Verdict, accepted, refused, _then_, scan}
+use Rattle.maps.specs.Sizes.{sizes, number4, number11, hasLength}
+use Rattle.maps.specs.Table.{entry, each}
+use Rattle.maps.specs.Check.{checkPyramid}
+use Rattle.maps.specs.CheckPyramid.{checkLent, checkLeaves}
+use Rattle.maps.specs.Accepted.{Accepted}
+use Rattle.maps.specs.Regions.{at23, regionsLent, regionsTable, RegionsLeave}
+use Rattle.laws.proofs.Verdicts.{then-two, then-three}
+use Rattle.facts.proofs.ExactJobs.{check-accepts}
+use Rattle.answers.specs.Numbers.{refusalOf}
+use Rattle.answers.specs.Lent.{lentOf}
+use Rattle.answers.specs.declared.Refusal.{Refusal}
+use Rattle.answers.specs.declared.Refusal.the-variants.{NoLevel}
+use Rattle.answers.proofs.Refusals.{refusal-refuses, refused-first, refused-second, accepted-both}
+use Rattle.orbits.specs.Choices.{chosen}
+use Rattle.regions.specs.Searches.{RegionChoices, Leads, Lowests}
+use Rattle.regions.proofs.Regions.{lowests-named}
+use Rattle.regions.proofs.Facts.{region-two-way}
+
+module _ (n N h : ℕ) (rows lambda delta table : List ℕ) (l : ℕ) (names : List ℕ) where
+  abbrev verdict : Verdict
+  verdict = regionsLent n N h rows lambda delta table l names
+
+  -- the answer, and what is left in the table and the name row
+  abbrev pub Answers : Verdict → List ℕ → List ℕ → Type 0
+  Answers v tabled named = (v ≡ verdict) × (tabled ≡ regionsTable n N h rows lambda delta table l names) × RegionsLeave n N h rows lambda delta table l names verdict named
+
+  -- a refusal leaves the name row as found
+  found : (k m i d : ℕ) → verdict ≡ refused k m i d → RegionsLeave n N h rows lambda delta table l names verdict names
+  found k m i d e = rw e refl
+
+  refused-leaves : (r : Refusal) → refusalOf r ≡ verdict → RegionsLeave n N h rows lambda delta table l names verdict names
+  refused-leaves r e = let x = refusal-refuses r in found (x .number) (x .level) (x .involution) (x .dart) (sym e ∙ x .is)
+
+  -- a name row of another length
+  pub not-long : hasLength names N ≡ false → Answers (lentOf n N h false) table names
+  unfolding regionsLent regionsTable number4
+  not-long q = let v : verdict ≡ lentOf n N h false = first (sizes n N h) in (sym v, rw q refl, leaves (sizes n N h) v)
+    where
+      rest : Verdict
+      rest = checkPyramid (entry N rows) n N h (each lambda) (each delta) then (number11 h l 0 0 then scan N (at23 (each delta)))
+
+      first : (s : Verdict) → (s then (number4 (hasLength names N && (hasLength rows (suc n * N) && (hasLength lambda N && (hasLength delta N && hasLength table (suc n * N))))) then rest)) ≡ (s then number4 false)
+      first accepted = rw q refl
+      first (refused k m i d) = refl
+
+      leaves : (s : Verdict) → verdict ≡ (s then number4 false) → RegionsLeave n N h rows lambda delta table l names verdict names
+      leaves accepted e = found 4 0 0 0 e
+      leaves (refused k m i d) e = found k m i d e
+
+  module _ (fit : hasLength names N ≡ true) where
+    left : checkLeaves n N h rows lambda delta table ≡ regionsTable n N h rows lambda delta table l names
+    unfolding regionsTable
+    left = rw fit
+
+    tests : verdict ≡ (checkLent n N h rows lambda delta table then (number11 h l 0 0 then scan N (at23 (each delta))))
+    unfolding regionsLent checkLent
+    tests =
+        let exact = hasLength rows (suc n * N) && (hasLength lambda N && (hasLength delta N && hasLength table (suc n * N))) in
+        let checked = checkPyramid (entry N rows) n N h (each lambda) (each delta) in
+        let rest = number11 h l 0 0 then scan N (at23 (each delta)) in
+        let all : ((sizes n N h then number4 exact) then checked) then rest ≡ (sizes n N h then (number4 exact then checked)) then rest = rw (then-two (sizes n N h) (number4 exact) checked) in
+        rw fit (then-three (sizes n N h) (number4 exact) checked rest ∙ all)
+
+    -- what the check refuses
+    pub check-refused : (r : Refusal) → refusalOf r ≡ checkLent n N h rows lambda delta table → Answers (refusalOf r) (checkLeaves n N h rows lambda delta table) names
+    check-refused r e = let v = refused-first verdict _ _ tests r e in (v, left, refused-leaves r v)
+
+    module _ (e : accepted ≡ checkLent n N h rows lambda delta table) where
+      pub accepts : Accepted n N h rows lambda delta table
+      accepts = check-accepts n N h rows lambda delta table (sym e)
+
+      after : (r : Refusal) → refusalOf r ≡ (number11 h l 0 0 then scan N (at23 (each delta))) → Answers (refusalOf r) (checkLeaves n N h rows lambda delta table) names
+      after r f = let v = refused-second verdict _ _ tests r e f in (v, left, refused-leaves r v)
+
+      -- a level that is too high
+      pub too-high : h < l → Answers (refused 11 l 0 0) (checkLeaves n N h rows lambda delta table) names
+      unfolding number11
+      too-high k = after (NoLevel (record { 0 = l }) (record { 0 = 0 }) 0) (rw (lt-ltb h l k))
+
+      module _ (k : l ≤ h) where
+        low : number11 h l 0 0 ≡ accepted
+        unfolding number11
+        low = rw (le-ltb h l k)
+
+        -- a contracted dart
+        pub shrunk : (r : Refusal) → refusalOf r ≡ scan N (at23 (each delta)) → Answers (refusalOf r) (checkLeaves n N h rows lambda delta table) names
+        shrunk r f = after r (rw low f)
+
+        module _ (plain : accepted ≡ scan N (at23 (each delta))) (choices : List ℕ) (is : RegionChoices n N (each lambda) (each delta) l choices) where
+          inside : (j d : ℕ) → j ≤ n → d < N → entry N rows j d < N
+          inside j d lj ld = accepts .pyramid .base .inside j d lj ld
+
+          -- the rows chosen lead to darts, and back
+          pub leads : Leads n N rows choices
+          leads =
+              let w = region-two-way (entry N rows) n N h (each lambda) (each delta) (accepts .pyramid) (sym plain) l k in
+              record {
+                rows = record { dimension = accepts .dimension .1; darts = accepts .darts .1; exact = accepts .rows-length };
+                two-way = record {
+                  inside = λ j d lj ld u. inside j d lj ld;
+                  twice = λ j d lj ld u. accepts .pyramid .base .twice j d lj ld;
+                  both = λ j d lj ld u. is j (entry N rows j d) lj (inside j d lj ld) ∙ w .both j d lj ld (sym (is j d lj ld) ∙ u);
+                };
+              }
+
+          -- all is named
+          pub all-named : (new : List ℕ) → Lowests (entry N rows) n N (chosen choices) new → Answers accepted (checkLeaves n N h rows lambda delta table) new
+          all-named new low-row =
+              let v : verdict ≡ accepted = sym (accepted-both verdict _ _ tests e (sym (rw low (sym plain)))) in
+              (sym v, left, rw v (lowests-named (entry N rows) n (each lambda) (each delta) l N inside (chosen choices) is new low-row))
