@@ -737,18 +737,13 @@ static unsigned bad_field(const uint8_t *bytes, size_t len, size_t at, unsigned 
     return left - 3 < length ? 16 : 0;
 }
 
-static void take_row(uint16_t *row, const uint8_t *body, unsigned darts, bool one_byte)
+static void take_row(uint16_t *row, const uint8_t *body, unsigned darts)
 {
-    if (one_byte)
-        for (unsigned d = 0; d < darts; d++)
-            row[d] = body[d];
 #if __BYTE_ORDER__ == __ORDER_LITTLE_ENDIAN__
-    else
-        memcpy(row, body, 2 * darts);
+    memcpy(row, body, 2 * darts);
 #else
-    else
-        for (unsigned d = 0; d < darts; d++)
-            row[d] = (uint16_t)(body[2 * d] | body[2 * d + 1] << 8);
+    for (unsigned d = 0; d < darts; d++)
+        row[d] = (uint16_t)(body[2 * d] | body[2 * d + 1] << 8);
 #endif
 }
 
@@ -763,10 +758,9 @@ zg_record plain_take(const uint8_t *bytes, size_t bytes_len, uint16_t *rows, siz
     if (bad)
         return RESULT(zg_record, {bad});
     size_t at = 7;
-    bool one_byte = darts <= 256 && bytes_len > at && bytes[at] == 0x20;
-    unsigned tag = one_byte ? 0x20 : 0x10, length = one_byte ? darts : 2 * darts;
+    unsigned length = 2 * darts;
     for (unsigned i = 0; i <= n; i++, at += 3 + length)
-        if ((bad = bad_field(bytes, bytes_len, at, tag + i, length)))
+        if ((bad = bad_field(bytes, bytes_len, at, 0x10 + i, length)))
             return RESULT(zg_record, {bad, .dart = (uint16_t)at});
     for (unsigned k = 0; k < 2; k++, at += 3 + darts)
         if ((bad = bad_field(bytes, bytes_len, at, 0x30 + k, darts)))
@@ -777,7 +771,7 @@ zg_record plain_take(const uint8_t *bytes, size_t bytes_len, uint16_t *rows, siz
     if (rows_len < entries || lambda_len < darts || delta_len < darts || table_len < entries)
         return RESULT(zg_record, {4});
     for (unsigned i = 0; i <= n; i++)
-        take_row(rows + i * darts, bytes + 10 + i * (3 + length), darts, one_byte);
+        take_row(rows + i * darts, bytes + 10 + i * (3 + length), darts);
     memcpy(lambda, bytes + at - 3 - 2 * darts, darts);
     memcpy(delta, bytes + at - darts, darts);
     zg_refusal checked = plain_check((uint8_t)n, (uint16_t)darts, (uint8_t)h, rows, entries, lambda, darts, delta, darts,

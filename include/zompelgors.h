@@ -15,8 +15,8 @@ extern "C" {
  * belong together. Names, the order of arguments and the first field of every answer stay. MAJOR rises when a function
  * answers or is lent something else than before, MINOR when something is added, PATCH when neither is seen from here.
  */
-#define ZG_VERSION_MAJOR 5
-#define ZG_VERSION_MINOR 3
+#define ZG_VERSION_MAJOR 6
+#define ZG_VERSION_MINOR 0
 #define ZG_VERSION_PATCH 0
 #define ZG_VERSION (ZG_VERSION_MAJOR * 65536 + ZG_VERSION_MINOR * 256 + ZG_VERSION_PATCH)
 

@@ -634,11 +634,10 @@ inline Record parse(const Bytes& bytes)
     demand_dimension(r.n);
     demand_darts(r.darts);
     demand_height(r.h);
-    const bool short_rows = fields.tag() == 0x20 && r.darts <= 256;
     for (unsigned i = 0; i <= r.n; i++) {
-        const Bytes row = short_rows ? fields.next(0x20 + i, r.darts) : fields.next(0x10 + i, 2 * r.darts);
+        const Bytes row = fields.next(0x10 + i, 2 * r.darts);
         for (unsigned d = 0; d < r.darts; d++)
-            r.rows.push_back(std::uint16_t(short_rows ? row[d] : row[2 * d] + 256u * row[2 * d + 1]));
+            r.rows.push_back(std::uint16_t(row[2 * d] + 256u * row[2 * d + 1]));
     }
     r.lambda = fields.next(0x30, r.darts);
     r.delta = fields.next(0x31, r.darts);

@@ -1,22 +1,20 @@
 #!/usr/bin/env python3
-"""Every prefix of three records, as case lines of the job take and the answers due: 16 at the offset of the field that the
+"""Every prefix of two records, as case lines of the job take and the answers due: 16 at the offset of the field that the
 prefix ends in, nothing lent changed.   prefixes.py cases | prefixes.py answers"""
 import sys
 
-def record(n, h, rows, marks, narrow=False):
+def record(n, h, rows, marks):
     darts = len(rows[0])
     field = lambda tag, body: [tag, len(body) % 256, len(body) // 256] + body
     out = field(1, [n, h, darts % 256, darts // 256])
     for i, row in enumerate(rows):
-        body = row if narrow else [b for x in row for b in (x % 256, x // 256)]
-        out += field((0x20 if narrow else 0x10) + i, body)
+        out += field(0x10 + i, [b for x in row for b in (x % 256, x // 256)])
     return out + field(0x30, marks[0]) + field(0x31, marks[1])
 
 star = [[6, 7, 8, 9, 10, 11, 0, 1, 2, 3, 4, 5], [5, 2, 1, 4, 3, 0, 7, 6, 9, 8, 11, 10], [1, 0, 3, 2, 5, 4, 7, 6, 9, 8, 11, 10]]
 marks = [1, 1, 0, 0, 1, 1, 2, 2, 0, 0, 2, 2], [0, 0, 1, 1, 0, 0, 2, 2, 1, 1, 2, 2]
 records = [
     record(2, 2, star, marks),
-    record(2, 2, star, marks, narrow=True),
     record(1, 1, [[1, 0], [0, 1]], ([1, 0], [1, 0])),
 ]
 lists = lambda x: " ".join(map(str, [len(x)] + x))

@@ -371,7 +371,8 @@ inline Bytes record_of(Random& r, const Case& c, std::vector<std::size_t>& start
     Bytes record;
     put_field(record, starts, 0x01,
               {std::uint8_t(c.n), std::uint8_t(c.h), std::uint8_t(c.darts & 255), std::uint8_t(c.darts >> 8)});
-    const bool one_byte = c.darts <= 256 && r.chance(50);
+    // One byte an entry is a kind that isn't taken any more.
+    const bool one_byte = c.darts <= 256 && r.chance(10);
     for (unsigned i = 0; i <= c.n; i++) {
         Bytes body;
         for (std::size_t k = std::size_t(i) * c.darts; k < std::size_t(i + 1) * c.darts; k++) {
@@ -480,7 +481,8 @@ inline void lend_record(Random& r, Case& c)
     c.delta = junk<Bytes>(r, c.delta.size() + r.below(more + 1));
     c.table = junk<Entries>(r, c.table.size() + r.below(more + 1));
     if (r.chance(20))
-        r.chance(50) ? change_length(r, r.chance(50) ? c.rows : c.table) : change_length(r, r.chance(50) ? c.lambda : c.delta);
+        r.chance(50) ? change_length(r, r.chance(50) ? c.rows : c.table)
+                     : change_length(r, r.chance(50) ? c.lambda : c.delta);
 }
 
 // A buffer for the record, from none to one that is longer.

@@ -126,20 +126,23 @@ fi
 
 # ---------------------------------------------------------------- the programs
 
-# program NAME JOB: on the records of the vectors of that job.
+# program TITLE WHICH WORD NAME FILE..: a program on the cases of a word, as tests/programs.py WHICH runs it.
 program() {
-    local program=target/bin/$1 title="program $1"
-    if [ ! -f "$program" ]; then
-        echo "$title: left out, there is no $program (rt check $1)"
+    local title=$1 which=$2 word=$3 name=$4
+    shift 4
+    if [ ! -f "target/bin/$name" ]; then
+        echo "$title: left out, there is no target/bin/$name (rt check $name)"
         left_out=$((left_out + 1))
     elif can "$title" python3 "${for_c[@]}"; then
-        tests/programs.py answers "$2" "${names[@]}" >"$BUILD/$1.answers"
-        same "$title" "$BUILD/program_$1.out" "$BUILD/$1.answers" \
-            tests/programs.py run "$2" "${names[@]}" -- "${run[@]}" "$program"
+        tests/programs.py answers "$word" "$@" >"$BUILD/$which.answers"
+        same "$title" "$BUILD/$which.out" "$BUILD/$which.answers" \
+            tests/programs.py "$which" "$@" -- "${run[@]}" "target/bin/$name"
     fi
 }
-program levels levels
-program census census_program
+program "program levels" levels levels levels "${names[@]/#/tests/vectors/}"
+program "program census" census census_program census "${names[@]/#/tests/vectors/}"
+program "program convert" convert convert convert tests/vectors/old/convert
+program "program convert, then levels" converted levels convert tests/vectors/old/levels
 # The census of the sample records, which the gate doesn't run.
 censuses() {
     local record

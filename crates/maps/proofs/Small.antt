@@ -21,7 +21,7 @@ use Rattle.maps.specs.CheckPyramid.{checkLent}
 use Rattle.maps.specs.Decimation.{decimationLent, decimationEmpty, decimationFactor}
 use Rattle.maps.specs.Check.{at5, at6, at7, check5, check6, check7, checkMap, at9, at10, check9, check10, checkKernel, at8, check8, kernelAt, checkKernels, checkPyramid}
 use Rattle.maps.specs.CheckPyramid.{leftBehind, checkLent, checkLeaves}
-use Rattle.maps.specs.Record.{field, formed, recordRows, recordLambda, recordDelta, recordLent, takeLent, takeRows, takeLambda, takeDelta, takeTable}
+use Rattle.maps.specs.Record.{wide, field, formed, recordRows, recordLambda, recordDelta, recordLent, takeLent, takeRows, takeLambda, takeDelta, takeTable}
 use Rattle.maps.specs.Sizes.{number2, number4}
 use Rattle.maps.specs.Partner.{Becomes, number2M, outside, edgesBack, had, number21, importLent, exportLent}
 
@@ -288,11 +288,11 @@ sevens m = listed (λ _. 7) m
 
 -- taken into slices of sevens: refused 9, the record in the rows and marks, level 0 in the table
 pub record SmallRecord : Type 0 where
-  pub refuses : takeLent halfEdge (sevens 5) (sevens 3) (sevens 3) (sevens 5) ≡ refused 9 0 0 0
-  pub rows-left : takeRows halfEdge (sevens 5) (sevens 3) (sevens 3) (sevens 5) ≡ 1 ∷ 0 ∷ 0 ∷ 1 ∷ 7 ∷ []
-  pub lambda-left : takeLambda halfEdge (sevens 5) (sevens 3) (sevens 3) (sevens 5) ≡ 0 ∷ 1 ∷ 7 ∷ []
-  pub delta-left : takeDelta halfEdge (sevens 5) (sevens 3) (sevens 3) (sevens 5) ≡ 9 ∷ 1 ∷ 7 ∷ []
-  pub table-left : takeTable halfEdge (sevens 5) (sevens 3) (sevens 3) (sevens 5) ≡ 1 ∷ 0 ∷ 0 ∷ 1 ∷ 7 ∷ []
+  pub refuses : takeLent halfEdge wide (sevens 5) (sevens 3) (sevens 3) (sevens 5) ≡ refused 9 0 0 0
+  pub rows-left : takeRows halfEdge wide (sevens 5) (sevens 3) (sevens 3) (sevens 5) ≡ 1 ∷ 0 ∷ 0 ∷ 1 ∷ 7 ∷ []
+  pub lambda-left : takeLambda halfEdge wide (sevens 5) (sevens 3) (sevens 3) (sevens 5) ≡ 0 ∷ 1 ∷ 7 ∷ []
+  pub delta-left : takeDelta halfEdge wide (sevens 5) (sevens 3) (sevens 3) (sevens 5) ≡ 9 ∷ 1 ∷ 7 ∷ []
+  pub table-left : takeTable halfEdge wide (sevens 5) (sevens 3) (sevens 3) (sevens 5) ≡ 1 ∷ 0 ∷ 0 ∷ 1 ∷ 7 ∷ []
 
 pub small-record : SmallRecord
 unfolding isMark between hasBeyond beyond scan count sum goOn removal listed explicit level at5 at6 at7 check5 check6 check7 checkMap at9 at10 check9 check10 checkKernel at8 check8 kernelAt checkKernels checkPyramid number1 number2 number3 number4 sizes leftBehind checkLent checkLeaves field formed recordRows recordLambda recordDelta recordLent takeLent takeRows takeLambda takeDelta takeTable

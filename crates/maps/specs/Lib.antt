@@ -33,4 +33,5 @@ pub mod Decimation
 pub mod Census
 pub mod Partner
 pub mod Regions
+pub mod Convert
 pub mod Accepted

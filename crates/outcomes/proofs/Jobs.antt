@@ -44,7 +44,8 @@ use Rattle.counting.proofs.OneCensus.{leaves-one, put-leaves-one}
 use Rattle.partner.proofs.import.Reads as import-map
 use Rattle.partner.proofs.export.Reads as export-map
 use Rattle.regions.proofs.name_regions.Reads as name-regions
-use Rattle.outcomes.proofs.One.{OneOutcome, one-outcome, nothing, three, same-three, four, same-four, pair, same-pair}
+use Rattle.converting.proofs.convert.Reads as convert
+use Rattle.outcomes.proofs.One.{OneOutcome, one-outcome, nothing, three, same-three, four, same-four, five, same-five, pair, same-pair}
 use Rattle.outcomes.proofs.Answers.{checkFrom, check-told, readingFrom, reading-told, valuesOfLink, linkFrom, link-told, valuesOfTotal, totalFrom, total-told, valuesOfSurvivors, survivorsFrom, survivors-told, valuesOfAdded, addedFrom, added-told, takenFrom, taken-told, writtenFrom, written-told, factorFrom, factor-told, numbersFrom, numbers-told}
 use Rattle.outcomes.proofs.Cells.{marking-same}
 use Rattle.outcomes.proofs.Partner.{import-same, export-same}
@@ -100,7 +101,7 @@ mark-cells-one κs a r r′ s s′ c c′ =
     (sym (check-told r) ∙ ap checkFrom (c .0 ∙ sym (c′ .0)) ∙ check-told r′, marking-same (a .0 .0) (a .1 .0) (now (a .1 .1 .0)) (a .1 .1 .1 .0 .0) (now (a .1 .1 .1 .1 .0)) _ _ (c .1) (c′ .1))
 
 -- rows, Λ and Δ
-pub unpack-one : (κs : Lfts 5) → OneOutcome (unpack.Learnt κs) (λ r. r) (λ s. three (now (s .1 .0)) (now (s .1 .1 .0)) (now (s .1 .1 .1 .0)))
+pub unpack-one : (κs : Lfts 5) → OneOutcome (unpack.Learnt κs) (λ r. r) (λ s. three (now (s .1 .1 .0)) (now (s .1 .1 .1 .0)) (now (s .1 .1 .1 .1 .0)))
 unpack-one κs =
     one-outcome _ _ _ (λ a. takenOf) takenFrom (λ a. taken-told) _ _ (λ a r s c.
     (c .0, same-three (c .1 .0) (c .1 .1 .0) (c .1 .1 .1)))
@@ -146,6 +147,12 @@ export-one κs a r r′ s s′ c c′ =
 pub name-regions-one : (κs : Lfts 5) → OneOutcome (name-regions.Learnt κs) (λ r. r) (λ s. pair (now (s .1 .1 .1 .1 .1 .1 .0)) (now (s .1 .1 .1 .1 .1 .1 .1 .1 .0)))
 name-regions-one κs a r r′ s s′ c c′ =
     (sym (check-told r) ∙ ap checkFrom (c .0 ∙ sym (c′ .0)) ∙ check-told r′, same-pair (c .1 .0 ∙ sym (c′ .1 .0)) (naming-same (a .0 .0) (a .1 .0) (a .1 .1 .0 .0) (now (a .1 .1 .1 .0)) (now (a .1 .1 .1 .1 .0)) (now (a .1 .1 .1 .1 .1 .0)) (now (a .1 .1 .1 .1 .1 .1 .0)) (a .1 .1 .1 .1 .1 .1 .1 .0 .0) (now (a .1 .1 .1 .1 .1 .1 .1 .1 .0)) _ _ (c .1 .1) (c′ .1 .1)))
+
+-- rows, Λ, Δ, the table and the buffer
+pub convert-one : (κs : Lfts 6) → OneOutcome (convert.Learnt κs) (λ r. r) (λ s. five (now (s .1 .0)) (now (s .1 .1 .0)) (now (s .1 .1 .1 .0)) (now (s .1 .1 .1 .1 .0)) (now (s .1 .1 .1 .1 .1 .0)))
+convert-one κs =
+    one-outcome _ _ _ (λ a. writtenOf) writtenFrom (λ a. written-told) _ _ (λ a r s c.
+    (c .0, same-five (c .1 .0) (c .1 .1 .0) (c .1 .1 .1 .0) (c .1 .1 .1 .1 .0) (c .1 .1 .1 .1 .1)))
 
 -- what jobs share
 pub sizes-one : (κs : Lfts 0) → OneOutcome (sizes.Learnt κs) (λ r. r) nothing

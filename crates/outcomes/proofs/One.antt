@@ -31,6 +31,13 @@ four x y z w = (x, y, z, w)
 pub same-four : {x x′ y y′ z z′ w w′ : List ℕ} → x ≡ x′ → y ≡ y′ → z ≡ z′ → w ≡ w′ → four x y z w ≡ four x′ y′ z′ w′
 same-four p q t u = λ i. four (p i) (q i) (t i) (u i)
 
+-- five slices that are written
+abbrev pub five : List ℕ → List ℕ → List ℕ → List ℕ → List ℕ → List ℕ × List ℕ × List ℕ × List ℕ × List ℕ
+five x y z w v = (x, y, z, w, v)
+
+pub same-five : {x x′ y y′ z z′ w w′ v v′ : List ℕ} → x ≡ x′ → y ≡ y′ → z ≡ z′ → w ≡ w′ → v ≡ v′ → five x y z w v ≡ five x′ y′ z′ w′ v′
+same-five p q t u o = λ i. five (p i) (q i) (t i) (u i) (o i)
+
 -- two slices that are written
 abbrev pub pair : List ℕ → List ℕ → List ℕ × List ℕ
 pair x y = (x, y)

@@ -13,7 +13,7 @@ use borrow.Author.Tests.{eqb-true, eqb-false, ltb-false, not-false}
 use Rattle.maps.specs.Verdict.{accepted, refused, when, _then_, scan}
 use Rattle.maps.specs.Sizes.{sizes, number4}
 use Rattle.maps.specs.Table.{listed}
-use Rattle.maps.specs.Record.{byte, twoBytes, field, recordDimension, recordHeight, recordDarts, oneByte, lambdaAt, deltaAt, recordEntry, recordRows, recordLambda, recordDelta, recordLent}
+use Rattle.maps.specs.Record.{Allowed, byte, twoBytes, field, recordDimension, recordHeight, recordDarts, oneByte, lambdaAt, deltaAt, recordEntry, recordRows, recordLambda, recordDelta, recordLent}
 use Rattle.maps.specs.Write.{fieldWritten, inTwoBytes, rowOf, rowsWritten, written}
 use Rattle.laws.proofs.Verdicts.{then-accepted, when-accepted, scan-accepted}
 use Rattle.laws.proofs.Tables.{length-listed, getD-listed, listed-of, in-table}
@@ -56,6 +56,16 @@ two-bytes-of xs list e h = ext-getD 0 list (inTwoBytes xs) (e ∙ sym (length-tw
         let z : k ≡ 2 * (k / 2) + 1 = omega arith in
         ap (λ (x : ℕ). getD list x 0) z ∙ h (k / 2) (omega arith) .1 ∙ sym (high-two xs (k / 2)) ∙ ap (λ (x : ℕ). getD (inTwoBytes xs) x 0) (sym z)
 
+-- an accepted field has the tag due
+field-tag : (bytes : List ℕ) (at tag size : ℕ) → field bytes at tag size ≡ accepted → byte bytes at ≡ tag
+unfolding field
+field-tag bytes at tag size e =
+    let v₁ = when (leb (length bytes) at) (refused 16 0 0 at) in
+    let v₂ = when (not (eqb (byte bytes at) tag)) (refused 17 0 0 at) in
+    let rest = when (ltb (length bytes) (at + 3)) (refused 16 0 0 at) then (when (not (eqb (twoBytes bytes (at + 1)) size)) (refused 18 0 0 at) then when (ltb (length bytes) (at + 3 + size)) (refused 16 0 0 at)) in
+    let tagged = then-accepted v₂ rest (then-accepted v₁ (v₂ then rest) e .1) .0 in
+    eqb-true (byte bytes at) tag (not-false (eqb (byte bytes at) tag) (when-accepted (not (eqb (byte bytes at) tag)) 17 0 0 at tagged))
+
 module _ (bytes : List ℕ) (small : Below 256 bytes) where
   -- an accepted field is what is written of its body
   field-again : (at tag size : ℕ) → field bytes at tag size ≡ accepted → part bytes at (3 + size) ≡ fieldWritten tag (part bytes (at + 3) size)
@@ -67,9 +77,9 @@ module _ (bytes : List ℕ) (small : Below 256 bytes) where
       let v₂ = when (not (eqb (byte bytes at) tag)) (refused 17 0 0 at) in
       let v₁ = when (leb (length bytes) at) (refused 16 0 0 at) in
       let f = then-accepted v₁ (v₂ then (v₃ then (v₄ then v₅))) e .1 in
-      let g = then-accepted v₂ (v₃ then (v₄ then v₅)) f in
-      let h = then-accepted v₃ (v₄ then v₅) (g .1) .1 in
-      let tagged = eqb-true (byte bytes at) tag (not-false (eqb (byte bytes at) tag) (when-accepted (not (eqb (byte bytes at) tag)) 17 0 0 at (g .0))) in
+      let g = then-accepted v₂ (v₃ then (v₄ then v₅)) f .1 in
+      let h = then-accepted v₃ (v₄ then v₅) g .1 in
+      let tagged = field-tag bytes at tag size e in
       let sized = eqb-true (twoBytes bytes (at + 1)) size (not-false (eqb (twoBytes bytes (at + 1)) size) (when-accepted (not (eqb (twoBytes bytes (at + 1)) size)) 18 0 0 at (then-accepted v₄ v₅ h .0))) in
       let room = field-room bytes at tag size e in
       let long = part-long bytes (at + 3) size room in
@@ -98,7 +108,7 @@ module _ (bytes : List ℕ) (small : Below 256 bytes) where
       (omega arith, omega arith))
 
 -- a record of two bytes an entry that is unpacked into lent slices
-module _ (bytes rows lambda delta table : List ℕ) (small : Below 256 bytes) (two : oneByte bytes ≡ false) (e : recordLent bytes rows lambda delta table ≡ accepted) where
+module _ (bytes : List ℕ) (allowed : Allowed) (rows lambda delta table : List ℕ) (small : Below 256 bytes) (two : oneByte bytes allowed ≡ false) (e : recordLent bytes allowed rows lambda delta table ≡ accepted) where
   abbrev n : ℕ
   n = recordDimension bytes
 
@@ -111,7 +121,7 @@ module _ (bytes rows lambda delta table : List ℕ) (small : Below 256 bytes) (t
   abbrev enough : Bool
   enough = leb (suc n * N) (length rows) && (leb N (length lambda) && (leb N (length delta) && leb (suc n * N) (length table)))
 
-  told : Told bytes rows lambda delta table n h N false enough
+  told : Told bytes allowed rows lambda delta table n h N false enough
   told = record { dimension = refl; height = refl; darts = refl; kind = sym two; fit = refl }
 
   parts : (field bytes 0 0x01 4 then sizes n N h ≡ accepted) × (restOf bytes n N false enough ≡ accepted)
@@ -149,16 +159,22 @@ module _ (bytes rows lambda delta table : List ℕ) (small : Below 256 bytes) (t
         ends = omega (arith, field-room bytes (lambdaFrom + (3 + N)) 0x31 N (r .0));
       }
 
+  -- the first row's tag
+  pub first-tag : byte bytes 7 ≡ 0x10
+  first-tag =
+      let seven : 7 ≡ 7 + 0 * (3 + 2 * N) = omega (arith, zero-mul (3 + 2 * N)) in
+      ap (byte bytes) seven ∙ field-tag bytes (7 + 0 * (3 + 2 * N)) (0x10 + 0) (2 * N) (tested .row 0 (omega arith))
+
   abbrev R : List ℕ
-  R = recordRows bytes
+  R = recordRows bytes allowed
 
   abbrev L : List ℕ
-  L = recordLambda bytes
+  L = recordLambda bytes allowed
 
   abbrev D : List ℕ
-  D = recordDelta bytes
+  D = recordDelta bytes allowed
 
-  rows-are : R ≡ listed (λ x. recordEntry bytes (x / N) (x % N)) (suc n * N)
+  rows-are : R ≡ listed (λ x. recordEntry bytes allowed (x / N) (x % N)) (suc n * N)
   unfolding recordRows
   rows-are = refl
 
@@ -166,22 +182,22 @@ module _ (bytes rows lambda delta table : List ℕ) (small : Below 256 bytes) (t
   marks-are : (at from : ℕ) → at ≡ from → from + N ≤ length bytes → listed (λ x. byte bytes (at + x)) N ≡ part bytes from N
   marks-are at from same room = sym (listed-of (λ x. byte bytes (at + x)) N (part bytes from N) (part-long bytes from N room) (λ x k. part-at bytes from N x k ∙ ap (λ (y : ℕ). byte bytes (y + x)) (sym same)))
 
-  starts : lambdaAt bytes ≡ lambdaFrom
+  starts : lambdaAt bytes allowed ≡ lambdaFrom
   starts = ap (λ (one : Bool). marksAt n N one) two
 
   lambda-is : L ≡ part bytes (lambdaFrom + 3) N
   unfolding recordLambda
-  lambda-is = marks-are (lambdaAt bytes + 3) (lambdaFrom + 3) (ap (λ (x : ℕ). x + 3) starts) (omega (arith, tested .ends))
+  lambda-is = marks-are (lambdaAt bytes allowed + 3) (lambdaFrom + 3) (ap (λ (x : ℕ). x + 3) starts) (omega (arith, tested .ends))
 
   delta-is : D ≡ part bytes (lambdaFrom + (3 + N) + 3) N
   unfolding recordDelta
-  delta-is = marks-are (deltaAt bytes + 3) (lambdaFrom + (3 + N) + 3) (ap (λ (x : ℕ). x + (3 + N) + 3) starts) (omega (arith, tested .ends))
+  delta-is = marks-are (deltaAt bytes allowed + 3) (lambdaFrom + (3 + N) + 3) (ap (λ (x : ℕ). x + (3 + N) + 3) starts) (omega (arith, tested .ends))
 
   -- row i
   row-is : (i : ℕ) → i ≤ n → rowOf N R i ≡ listed (λ d. twoBytes bytes (7 + i * (3 + 2 * N) + 3 + 2 * d)) N
   unfolding rowOf
   row-is i l =
-      let v : ℕ → ℕ = λ x. recordEntry bytes (x / N) (x % N) in
+      let v : ℕ → ℕ = λ x. recordEntry bytes allowed (x / N) (x % N) in
       let k : suc i * N ≤ suc n * N = mul-le-mul-right N (omega arith) in
       let long : length R ≡ suc n * N = ap length rows-are ∙ length-listed v (suc n * N) in
       listed-of (λ d. twoBytes bytes (7 + i * (3 + 2 * N) + 3 + 2 * d)) N (take N (drop (i * N) R)) (omega (arith, length-take N (drop (i * N) R), length-drop (i * N) R, suc-mul i N)) (λ d f.
@@ -189,7 +205,7 @@ module _ (bytes rows lambda delta table : List ℕ) (small : Below 256 bytes) (t
       ∙ getD-drop (i * N) R d 0
       ∙ ap (λ (x : List ℕ). getD x (i * N + d) 0) rows-are
       ∙ getD-listed v (suc n * N) (i * N + d) 0 (in-table n N i d l f)
-      ∙ ap₂ (recordEntry bytes) (digits-div i f) (digits-mod i f)
+      ∙ ap₂ (recordEntry bytes allowed) (digits-div i f) (digits-mod i f)
       ∙ ap (λ (one : Bool). entryFrom bytes one (rowFrom N one i + 3) d) two)
 
   row-again : (i : ℕ) → i ≤ n → part bytes (7 + i * (3 + 2 * N)) (3 + 2 * N) ≡ fieldWritten (0x10 + i) (inTwoBytes (rowOf N R i))
@@ -216,7 +232,7 @@ module _ (bytes rows lambda delta table : List ℕ) (small : Below 256 bytes) (t
       field-again bytes small 0 0x01 4 (tested .header) ∙ ap (fieldWritten 0x01) (body ∙ ap₂ (λ (x y : ℕ). n ∷ h ∷ x ∷ y ∷ []) (omega arith) (omega arith))
 
   -- written again, it is the same bytes
-  pub again : written (recordDimension bytes) (recordHeight bytes) (recordDarts bytes) (recordRows bytes) (recordLambda bytes) (recordDelta bytes) ≡ bytes
+  pub again : written (recordDimension bytes) (recordHeight bytes) (recordDarts bytes) (recordRows bytes allowed) (recordLambda bytes allowed) (recordDelta bytes allowed) ≡ bytes
   unfolding written
   again =
       let rowsSize = suc n * (3 + 2 * N) in

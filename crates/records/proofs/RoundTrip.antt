@@ -1,6 +1,6 @@
 -- What a record that is written holds. Assumes nothing.
 use mathlib.Core.Path.{_≡_, refl, sym, ap, _∙_}
-use mathlib.Core.Bool.{Bool, true, false, _&&_}
+use mathlib.Core.Bool.{Bool, true, false}
 use mathlib.Core.List.{List, [], _∷_, _++_, append-nil, append-assoc}
 use Prim.Native.Nat.{ℕ, zero, suc, _+_, _-_, _*_, _/_, _%_, _≤_, _<_}
 use native.Mathlib.Nat.{zero-mul}
@@ -8,12 +8,12 @@ use native.Mathlib.Omega.{arith}
 use lib.ListN.{length, getD, take, drop, length-append, length-take, List·getD-append, List·getD-eq-default}
 use lib.Seq.{getD-append-add, getD-take, getD-drop}
 use lib.Arith.{digits-div, digits-mod}
-use lib.Dec.{eqb, leb, ltb}
+use lib.Dec.{eqb, ltb}
 use borrow.Author.Tests.{eqb-true, eqb-false, ltb-true, ltb-false, le-leb, lt-leb, le-ltb, eq-eqb}
 use Rattle.maps.specs.Verdict.{accepted, _then_}
 use Rattle.maps.specs.Sizes.{sizes, number1, number2, number3, number4}
 use Rattle.maps.specs.Write.{fieldWritten, inTwoBytes, rowOf, rowsWritten, written}
-use Rattle.maps.specs.Record.{field, recordDimension, recordHeight, recordDarts, recordRows, recordLambda, recordDelta, recordLent}
+use Rattle.maps.specs.Record.{Allowed, wide, either, oneByteBy, field, recordDimension, recordHeight, recordDarts, recordRows, recordLambda, recordDelta, recordLent}
 use Rattle.laws.proofs.Verdicts.{scan-all}
 use Rattle.laws.proofs.Tables.{place}
 use Rattle.laws.proofs.Sizes.{Sized}
@@ -228,15 +228,19 @@ module _ (n h N : ℕ) (rows lambda delta : List ℕ) (s : Sized n N h) (rows-le
       let seven : 7 ≡ 7 + 0 * (3 + 2 * N) = omega (arith, zero-mul (3 + 2 * N)) in
       ap (λ (x : ℕ). getD list x 0) seven ∙ field-tag (row-stands 0 (omega arith))
 
+  two-bytes : (allowed : Allowed) → oneByteBy allowed 0x10 N ≡ false
+  two-bytes wide = refl
+  two-bytes either = refl
+
   -- what unpacking it gives, with lent slices of these lengths or longer ones
-  module _ (lentRows lentLambda lentDelta lentTable : List ℕ) (rows-lent : suc n * N ≤ length lentRows) (lambda-lent : N ≤ length lentLambda) (delta-lent : N ≤ length lentDelta) (table-lent : suc n * N ≤ length lentTable) where
-    told : Told list lentRows lentLambda lentDelta lentTable n h N false true
+  module _ (allowed : Allowed) (lentRows lentLambda lentDelta lentTable : List ℕ) (rows-lent : suc n * N ≤ length lentRows) (lambda-lent : N ≤ length lentLambda) (delta-lent : N ≤ length lentDelta) (table-lent : suc n * N ≤ length lentTable) where
+    told : Told list allowed lentRows lentLambda lentDelta lentTable n h N false true
     unfolding written fieldWritten inTwoBytes
     told = record {
       dimension = refl;
       height = refl;
       darts = omega arith;
-      kind = ap (λ (x : ℕ). eqb x 0x20 && leb N 256) (sym first-tag);
+      kind = sym (ap (λ (x : ℕ). oneByteBy allowed x N) first-tag ∙ two-bytes allowed);
       fit = rw (le-leb (suc n * N) (length lentRows) rows-lent, le-leb N (length lentLambda) lambda-lent, le-leb N (length lentDelta) delta-lent, le-leb (suc n * N) (length lentTable) table-lent);
     }
 
@@ -251,13 +255,13 @@ module _ (n h N : ℕ) (rows lambda delta : List ℕ) (s : Sized n N h) (rows-le
         )
 
     pub record Held : Type 0 where
-      pub verdict : recordLent (written n h N rows lambda delta) lentRows lentLambda lentDelta lentTable ≡ accepted
+      pub verdict : recordLent (written n h N rows lambda delta) allowed lentRows lentLambda lentDelta lentTable ≡ accepted
       pub dimension : recordDimension (written n h N rows lambda delta) ≡ n
       pub height : recordHeight (written n h N rows lambda delta) ≡ h
       pub darts : recordDarts (written n h N rows lambda delta) ≡ N
-      pub rows-held : recordRows (written n h N rows lambda delta) ≡ rows
-      pub lambda-held : recordLambda (written n h N rows lambda delta) ≡ lambda
-      pub delta-held : recordDelta (written n h N rows lambda delta) ≡ delta
+      pub rows-held : recordRows (written n h N rows lambda delta) allowed ≡ rows
+      pub lambda-held : recordLambda (written n h N rows lambda delta) allowed ≡ lambda
+      pub delta-held : recordDelta (written n h N rows lambda delta) allowed ≡ delta
 
     pub round-trip : Held
     round-trip =

@@ -9,7 +9,7 @@ use lib.Dec.{eqb, leb, ltb}
 use borrow.Author.Tests.{leb-true, ltb-false}
 use Rattle.maps.specs.Verdict.{Verdict, accepted, refused, when, _then_, scan}
 use Rattle.maps.specs.Sizes.{sizes, number4}
-use Rattle.maps.specs.Record.{byte, twoBytes, field, recordDimension, recordHeight, recordDarts, oneByte, rowSize, lambdaAt, deltaAt, endAt, formed, recordRows, recordLambda, recordDelta, recordLent, takeRows, takeLambda, takeDelta}
+use Rattle.maps.specs.Record.{Allowed, oneByteBy, byte, twoBytes, field, recordDimension, recordHeight, recordDarts, oneByte, rowSize, lambdaAt, deltaAt, endAt, formed, recordRows, recordLambda, recordDelta, recordLent, takeRows, takeLambda, takeDelta}
 use Rattle.laws.proofs.Verdicts.{then-accepted, when-accepted, and-both}
 use Rattle.laws.proofs.Tables.{listed-of}
 use Rattle.laws.proofs.Sizes.{Sized, sizes-sized, lengths-exact}
@@ -43,41 +43,41 @@ field-room bytes at tag size e =
     ltb-false (length bytes) (at + 3 + size) (when-accepted (ltb (length bytes) (at + 3 + size)) 16 0 0 at (then-accepted v₄ v₅ h .1))
 
 -- after a refusal nothing lent has changed
-pub left-alone : (b rows lambda delta table : List ℕ) (r : Refusal) → refusalOf r ≡ recordLent b rows lambda delta table
-    → (saying (refusalOf r) 0 0 0 ≡ unpacked b rows lambda delta table) × ((rows ≡ takeRows b rows lambda delta table) × ((lambda ≡ takeLambda b rows lambda delta table) × (delta ≡ takeDelta b rows lambda delta table)))
+pub left-alone : (b : List ℕ) (allowed : Allowed) (rows lambda delta table : List ℕ) (r : Refusal) → refusalOf r ≡ recordLent b allowed rows lambda delta table
+    → (saying (refusalOf r) 0 0 0 ≡ unpacked b allowed rows lambda delta table) × ((rows ≡ takeRows b allowed rows lambda delta table) × ((lambda ≡ takeLambda b allowed rows lambda delta table) × (delta ≡ takeDelta b allowed rows lambda delta table)))
 unfolding takeRows takeLambda takeDelta
-left-alone b rows lambda delta table r e =
+left-alone b allowed rows lambda delta table r e =
     let x = refusal-refuses r in
-    let f : recordLent b rows lambda delta table ≡ refused (x .number) (x .level) (x .involution) (x .dart) = sym e ∙ x .is in
+    let f : recordLent b allowed rows lambda delta table ≡ refused (x .number) (x .level) (x .involution) (x .dart) = sym e ∙ x .is in
     (rw (x .is, f), (rw f, (rw f, rw f)))
 
 -- what is read of a record before its rows: n, h, N, the kind of its rows, and whether there is room for it
-pub record Told (b rows lambda delta table : List ℕ) (n h N : ℕ) (one enough : Bool) : Type 0 where
+pub record Told (b : List ℕ) (allowed : Allowed) (rows lambda delta table : List ℕ) (n h N : ℕ) (one enough : Bool) : Type 0 where
   pub dimension : n ≡ recordDimension b
   pub height : h ≡ recordHeight b
   pub darts : N ≡ recordDarts b
-  pub kind : one ≡ (eqb (byte b 7) 0x20 && leb N 256)
+  pub kind : one ≡ oneByteBy allowed (byte b 7) N
   pub fit : enough ≡ (leb (suc n * N) (length rows) && (leb N (length lambda) && (leb N (length delta) && leb (suc n * N) (length table))))
 
-module _ {b rows lambda delta table : List ℕ} {n h N : ℕ} {one enough : Bool} (t : Told b rows lambda delta table n h N one enough) where
+module _ {b : List ℕ} {allowed : Allowed} {rows lambda delta table : List ℕ} {n h N : ℕ} {one enough : Bool} (t : Told b allowed rows lambda delta table n h N one enough) where
   -- the tests of the header, and of the rest
-  pub lent-is : recordLent b rows lambda delta table ≡ (field b 0 0x01 4 then sizes n N h) then restOf b n N one enough
+  pub lent-is : recordLent b allowed rows lambda delta table ≡ (field b 0 0x01 4 then sizes n N h) then restOf b n N one enough
   unfolding recordLent formed restOf roomOf
   lent-is =
       rw (t .fit, t .kind, t .dimension, t .height, t .darts)
-      (regroup (field b 0 0x01 4) (sizes (recordDimension b) (recordDarts b) (recordHeight b)) (scan (suc (recordDimension b)) (rowField b (oneByte b) (rowSize b))) (field b (lambdaAt b) 0x30 (recordDarts b)) (field b (deltaAt b) 0x31 (recordDarts b)) (when (ltb (endAt b) (length b)) (refused 19 0 0 (endAt b)))
+      (regroup (field b 0 0x01 4) (sizes (recordDimension b) (recordDarts b) (recordHeight b)) (scan (suc (recordDimension b)) (rowField b (oneByte b allowed) (rowSize b allowed))) (field b (lambdaAt b allowed) 0x30 (recordDarts b)) (field b (deltaAt b allowed) 0x31 (recordDarts b)) (when (ltb (endAt b allowed) (length b)) (refused 19 0 0 (endAt b allowed)))
       (number4 (leb (suc (recordDimension b) * recordDarts b) (length rows) && (leb (recordDarts b) (length lambda) && (leb (recordDarts b) (length delta) && leb (suc (recordDimension b) * recordDarts b) (length table))))))
 
   -- lists that hold the values of a record are its rows, Λ and Δ
-  pub holds-rows : (list : List ℕ) → length list ≡ suc n * N → ((x : ℕ) → x < suc n * N → getD list x 0 ≡ tableEntry b N one x) → list ≡ recordRows b
+  pub holds-rows : (list : List ℕ) → length list ≡ suc n * N → ((x : ℕ) → x < suc n * N → getD list x 0 ≡ tableEntry b N one x) → list ≡ recordRows b allowed
   unfolding recordRows
   holds-rows list long same = rw (t .kind, t .dimension, t .darts) at (listed-of (tableEntry b N one) (suc n * N) list long same)
 
-  pub holds-lambda : (list : List ℕ) → length list ≡ N → ((x : ℕ) → x < N → getD list x 0 ≡ byteFrom b (marksAt n N one + 3) x) → list ≡ recordLambda b
+  pub holds-lambda : (list : List ℕ) → length list ≡ N → ((x : ℕ) → x < N → getD list x 0 ≡ byteFrom b (marksAt n N one + 3) x) → list ≡ recordLambda b allowed
   unfolding recordLambda
   holds-lambda list long same = rw (t .kind, t .dimension, t .darts) at (listed-of (byteFrom b (marksAt n N one + 3)) N list long same)
 
-  pub holds-delta : (list : List ℕ) → length list ≡ N → ((x : ℕ) → x < N → getD list x 0 ≡ byteFrom b (marksAt n N one + (3 + N) + 3) x) → list ≡ recordDelta b
+  pub holds-delta : (list : List ℕ) → length list ≡ N → ((x : ℕ) → x < N → getD list x 0 ≡ byteFrom b (marksAt n N one + (3 + N) + 3) x) → list ≡ recordDelta b allowed
   unfolding recordDelta
   holds-delta list long same = rw (t .kind, t .dimension, t .darts) at (listed-of (byteFrom b (marksAt n N one + (3 + N) + 3)) N list long same)
 
@@ -105,9 +105,9 @@ module _ {b rows lambda delta table : List ℕ} {n h N : ℕ} {one enough : Bool
 
       -- the record is unpacked
       pub all-unpacked : {rows′ lambda′ delta′ : List ℕ} → Laid (tableEntry b N one) 0 (suc n * N) rows rows′ → Laid (byteFrom b (marksAt n N one + 3)) 0 N lambda lambda′ → Laid (byteFrom b (marksAt n N one + (3 + N) + 3)) 0 N delta delta′
-          → (saying accepted n h N ≡ unpacked b rows lambda delta table) × ((rows′ ≡ takeRows b rows lambda delta table) × ((lambda′ ≡ takeLambda b rows lambda delta table) × (delta′ ≡ takeDelta b rows lambda delta table)))
+          → (saying accepted n h N ≡ unpacked b allowed rows lambda delta table) × ((rows′ ≡ takeRows b allowed rows lambda delta table) × ((lambda′ ≡ takeLambda b allowed rows lambda delta table) × (delta′ ≡ takeDelta b allowed rows lambda delta table)))
       unfolding takeRows takeLambda takeDelta recordRows recordLambda recordDelta
       all-unpacked s u w =
-          let v : recordLent b rows lambda delta table ≡ accepted = lent-is ∙ rw (e, f) in
+          let v : recordLent b allowed rows lambda delta table ≡ accepted = lent-is ∙ rw (e, f) in
           let room = room-for in
           (rw (v, t .dimension, t .height, t .darts), (rw v (rw (t .kind, t .dimension, t .darts) at (laid-listed s (room .4))), (rw v (rw (t .kind, t .dimension, t .darts) at (laid-listed u (room .5))), rw v (rw (t .kind, t .dimension, t .darts) at (laid-listed w (room .6))))))

@@ -2,8 +2,10 @@
 use mathlib.Core.List.{List}
 use Prim.Native.Nat.{ℕ}
 use Rattle.maps.specs.Verdict.{Verdict, accepted, ifAccepted}
-use Rattle.maps.specs.Record.{recordDimension, recordHeight, recordDarts, recordLent}
+use Rattle.maps.specs.Record.{Allowed as AllowedRows, wide, either, recordDimension, recordHeight, recordDarts, recordLent}
 use Rattle.answers.specs.Numbers.{refusalOf}
+use Rattle.records.specs.declared.Allowed.{Allowed}
+use Rattle.records.specs.declared.Allowed.the-variants.{Wide, Either}
 use Rattle.records.specs.declared.Taken.{Taken}
 use Rattle.records.specs.declared.Taken.the-variants.{Record, Refused}
 
@@ -23,6 +25,11 @@ abbrev pub takenOf : Taken → Outcome
 takenOf (Record n h darts) = saying accepted (n .0) (h .0) darts
 takenOf (Refused r) = saying (refusalOf r) 0 0 0
 
+-- the rows that a reader allows
+abbrev pub allowedOf : Allowed → AllowedRows
+allowedOf Wide = wide
+allowedOf Either = either
+
 -- what unpacking a record answers
-abbrev pub unpacked : List ℕ → List ℕ → List ℕ → List ℕ → List ℕ → Outcome
-unpacked bytes rows lambda delta table = saying (recordLent bytes rows lambda delta table) (recordDimension bytes) (recordHeight bytes) (recordDarts bytes)
+abbrev pub unpacked : List ℕ → AllowedRows → List ℕ → List ℕ → List ℕ → List ℕ → Outcome
+unpacked bytes allowed rows lambda delta table = saying (recordLent bytes allowed rows lambda delta table) (recordDimension bytes) (recordHeight bytes) (recordDarts bytes)

@@ -12,12 +12,12 @@ ghost use mathlib.Core.Path.{_≡_};
 ghost use mathlib.Core.Bool.{cond, _&&_};
 ghost use Prim.Native.Nat.{suc, _+_, _*_, _≤_};
 ghost use lib.ListN.{length, getD};
-ghost use lib.Dec.{eqb, leb};
+ghost use lib.Dec.{leb};
 ghost use Rattle.maps.specs.Verdict.{_then_, scan};
 ghost use Rattle.maps.specs.Sizes.{sizes as sizesOf};
-ghost use Rattle.maps.specs.Record.{field as fieldOf, takeRows, takeLambda, takeDelta};
+ghost use Rattle.maps.specs.Record.{oneByteBy, field as fieldOf, takeRows, takeLambda, takeDelta};
 ghost use Rattle.answers.specs.Numbers.{verdictOf};
-ghost use Rattle.records.specs.Answers.{takenOf, unpacked};
+ghost use Rattle.records.specs.Answers.{allowedOf, takenOf, unpacked};
 ghost use Rattle.records.specs.Kinds.{kindOf, tagOf, Due, Says};
 ghost use Rattle.records.specs.Parts.{sizeOf, marksAt, rowField, roomOf, restOf, byteFrom, entryFrom, tableEntry, Laid};
 
@@ -25,6 +25,12 @@ ghost use Rattle.records.specs.Parts.{sizeOf, marksAt, rowField, roomOf,
 pub enum Taken {
     Record(Dim, Level, u16),
     Refused(Refusal),
+}
+
+// The rows that a reader allows: of two bytes an entry alone, or of either kind, as old records may have them.
+pub enum Allowed {
+    Wide,
+    Either,
 }
 
 // What a tag says; a row's tag says which row.
@@ -37,7 +43,7 @@ enum Kind {
     Other,
 }
 
-// What a tag says: this match alone decides it.
+// What a tag says: this match alone decides it. `Narrow` rows, of one byte an entry, are those of old records; whether a reader allows them `one_byte` decides.
 fn kind_of(tag: u8) -> Kind
     ensures { λ r. ⌜ r ≡ kindOf tag ⌝ }
 {
@@ -106,11 +112,16 @@ fn byte_at(bytes: &[u8], at: usize) -> u8
 }
 
 // The first row's tag settles the kind: has an entry one byte?
-fn one_byte(bytes: &[u8], darts: u16) -> bool
-    ensures { λ r. ⌜ r ≡ (eqb (getD (now (bytes .entry)) 7 0) 0x20 && leb darts 256) ⌝ }
+fn one_byte(bytes: &[u8], allowed: Allowed, darts: u16) -> bool
+    ensures { λ r. ⌜ r ≡ oneByteBy (allowedOf allowed) (getD (now (bytes .entry)) 7 0) darts ⌝ }
 {
-    let narrow = is_due(kind_of(byte_at(bytes, 7)), Kind::Narrow(Dim(0)));
-    answers::both(narrow, darts <= 256)
+    match allowed {
+        Allowed::Wide => false,
+        Allowed::Either => {
+            let narrow = is_due(kind_of(byte_at(bytes, 7)), Kind::Narrow(Dim(0)));
+            answers::both(narrow, darts <= 256)
+        }
+    }
 }
 
 // The first of two checks where it refuses, else the second.
@@ -296,15 +307,16 @@ fn copy_all(
 // Unpack a record into lent tables: nothing lent is written before the whole record is known to be good. Of the table that its check is lent, the length is tested.
 pub fn unpack(
     bytes: &[u8],
+    allowed: Allowed,
     rows: &mut [u16],
     lambda: &mut [u8],
     delta: &mut [u8],
     table: &[u16],
 ) -> Taken
-    ensures { λ r. ⌜ takenOf r ≡ unpacked (now (bytes .entry)) (now (rows .entry)) (now (lambda .entry)) (now (delta .entry)) (now (table .entry)) ⌝ }
-    ensures { λ _. ⌜ now (rows .exit) ≡ takeRows (now (bytes .entry)) (now (rows .entry)) (now (lambda .entry)) (now (delta .entry)) (now (table .entry)) ⌝ }
-    ensures { λ _. ⌜ now (lambda .exit) ≡ takeLambda (now (bytes .entry)) (now (rows .entry)) (now (lambda .entry)) (now (delta .entry)) (now (table .entry)) ⌝ }
-    ensures { λ _. ⌜ now (delta .exit) ≡ takeDelta (now (bytes .entry)) (now (rows .entry)) (now (lambda .entry)) (now (delta .entry)) (now (table .entry)) ⌝ }
+    ensures { λ r. ⌜ takenOf r ≡ unpacked (now (bytes .entry)) (allowedOf allowed) (now (rows .entry)) (now (lambda .entry)) (now (delta .entry)) (now (table .entry)) ⌝ }
+    ensures { λ _. ⌜ now (rows .exit) ≡ takeRows (now (bytes .entry)) (allowedOf allowed) (now (rows .entry)) (now (lambda .entry)) (now (delta .entry)) (now (table .entry)) ⌝ }
+    ensures { λ _. ⌜ now (lambda .exit) ≡ takeLambda (now (bytes .entry)) (allowedOf allowed) (now (rows .entry)) (now (lambda .entry)) (now (delta .entry)) (now (table .entry)) ⌝ }
+    ensures { λ _. ⌜ now (delta .exit) ≡ takeDelta (now (bytes .entry)) (allowedOf allowed) (now (rows .entry)) (now (lambda .entry)) (now (delta .entry)) (now (table .entry)) ⌝ }
 {
     let n = Dim(byte_at(bytes, 3));
     let h = Level(byte_at(bytes, 4));
@@ -312,7 +324,7 @@ pub fn unpack(
     if let Check::Refused(r) = header(bytes, n, darts, h) {
         return Taken::Refused(r);
     }
-    let one = one_byte(bytes, darts);
+    let one = one_byte(bytes, allowed, darts);
     let enough = long_enough(n, darts, rows.len(), lambda.len(), delta.len(), table.len());
     if let Check::Refused(r) = rest(bytes, n, darts, one, enough) {
         return Taken::Refused(r);

@@ -1,14 +1,15 @@
-// Take a record: it is unpacked and its pyramid checked, in one job. Assumes nothing: any bytes at all are answered.
+// Take a record: it is unpacked and its pyramid checked, in one job; its rows have two bytes an entry. Assumes nothing: any bytes at all are answered.
 use answers::Check;
 use answers::Dim;
 use answers::Level;
+use records::Allowed;
 use records::Taken;
 ghost use mathlib.Core.Path.{_≡_};
 ghost use mathlib.Core.List.{_++_};
 ghost use Prim.Native.Nat.{suc, _*_, _≤_};
 ghost use lib.ListN.{length, take as first, drop};
 ghost use Rattle.maps.specs.CheckPyramid.{checkLent, checkLeaves};
-ghost use Rattle.maps.specs.Record.{takeRows, takeLambda, takeDelta, takeTable};
+ghost use Rattle.maps.specs.Record.{wide, takeRows, takeLambda, takeDelta, takeTable};
 ghost use Rattle.answers.specs.Numbers.{verdictOf};
 ghost use Rattle.records.specs.Answers.{takenOf};
 ghost use Rattle.taking.specs.Answers.{taken};
@@ -48,13 +49,13 @@ pub fn take(
     delta: &mut [u8],
     table: &mut [u16],
 ) -> Taken
-    ensures { λ r. ⌜ takenOf r ≡ taken (now (bytes .entry)) (now (rows .entry)) (now (lambda .entry)) (now (delta .entry)) (now (table .entry)) ⌝ }
-    ensures { λ _. ⌜ now (rows .exit) ≡ takeRows (now (bytes .entry)) (now (rows .entry)) (now (lambda .entry)) (now (delta .entry)) (now (table .entry)) ⌝ }
-    ensures { λ _. ⌜ now (lambda .exit) ≡ takeLambda (now (bytes .entry)) (now (rows .entry)) (now (lambda .entry)) (now (delta .entry)) (now (table .entry)) ⌝ }
-    ensures { λ _. ⌜ now (delta .exit) ≡ takeDelta (now (bytes .entry)) (now (rows .entry)) (now (lambda .entry)) (now (delta .entry)) (now (table .entry)) ⌝ }
-    ensures { λ _. ⌜ now (table .exit) ≡ takeTable (now (bytes .entry)) (now (rows .entry)) (now (lambda .entry)) (now (delta .entry)) (now (table .entry)) ⌝ }
+    ensures { λ r. ⌜ takenOf r ≡ taken (now (bytes .entry)) wide (now (rows .entry)) (now (lambda .entry)) (now (delta .entry)) (now (table .entry)) ⌝ }
+    ensures { λ _. ⌜ now (rows .exit) ≡ takeRows (now (bytes .entry)) wide (now (rows .entry)) (now (lambda .entry)) (now (delta .entry)) (now (table .entry)) ⌝ }
+    ensures { λ _. ⌜ now (lambda .exit) ≡ takeLambda (now (bytes .entry)) wide (now (rows .entry)) (now (lambda .entry)) (now (delta .entry)) (now (table .entry)) ⌝ }
+    ensures { λ _. ⌜ now (delta .exit) ≡ takeDelta (now (bytes .entry)) wide (now (rows .entry)) (now (lambda .entry)) (now (delta .entry)) (now (table .entry)) ⌝ }
+    ensures { λ _. ⌜ now (table .exit) ≡ takeTable (now (bytes .entry)) wide (now (rows .entry)) (now (lambda .entry)) (now (delta .entry)) (now (table .entry)) ⌝ }
 {
-    match records::unpack(bytes, rows, lambda, delta, table) {
+    match records::unpack(bytes, Allowed::Wide, rows, lambda, delta, table) {
         Taken::Refused(r) => Taken::Refused(r),
         Taken::Record(n, h, darts) => {
             if let Check::Refused(r) = check_front(n, darts, h, rows, lambda, delta, table) {

@@ -18,7 +18,7 @@ ghost use Rattle.maps.specs.Unfold.{unfoldLent, unfoldTotal, unfoldSince, unfol
 ghost use Rattle.maps.specs.Row.{rowLent};
 ghost use Rattle.maps.specs.Survivors.{survivorsLent, survivorCount, survivorWords};
 ghost use Rattle.maps.specs.MarkCells.{markLent, MarkLeaves};
-ghost use Rattle.maps.specs.Record.{takeRows, takeLambda, takeDelta, takeTable};
+ghost use Rattle.maps.specs.Record.{wide, takeRows, takeLambda, takeDelta, takeTable};
 ghost use Rattle.maps.specs.Write.{writeTable, writeLeaves};
 ghost use Rattle.maps.specs.Decimation.{decimationTable};
 ghost use Rattle.maps.specs.Census.{censusLent, censusTable, CensusPutLeaves};
@@ -372,12 +372,12 @@ fn factor_as(answer: shrinking::Factor) -> ZgFactor
     }
 }
 
-// The version of this interface: 5.3.0.
+// The version of this interface: 6.0.0.
 #[no_mangle]
 pub extern "C" fn zg_version() -> u32
-    ensures { λ r. ⌜ r ≡ versionFor 5 3 0 ⌝ }
+    ensures { λ r. ⌜ r ≡ versionFor 6 0 0 ⌝ }
 {
-    328448
+    393216
 }
 
 // Checks a base.
@@ -596,11 +596,11 @@ pub extern "C" fn zg_take(
     delta: &mut [u8],
     table: &mut [u16],
 ) -> ZgRecord
-    ensures { λ r. ⌜ r ≡ recordFor (taken (now (bytes .entry)) (now (rows .entry)) (now (lambda .entry)) (now (delta .entry)) (now (table .entry))) ⌝ }
-    ensures { λ _. ⌜ now (rows .exit) ≡ takeRows (now (bytes .entry)) (now (rows .entry)) (now (lambda .entry)) (now (delta .entry)) (now (table .entry)) ⌝ }
-    ensures { λ _. ⌜ now (lambda .exit) ≡ takeLambda (now (bytes .entry)) (now (rows .entry)) (now (lambda .entry)) (now (delta .entry)) (now (table .entry)) ⌝ }
-    ensures { λ _. ⌜ now (delta .exit) ≡ takeDelta (now (bytes .entry)) (now (rows .entry)) (now (lambda .entry)) (now (delta .entry)) (now (table .entry)) ⌝ }
-    ensures { λ _. ⌜ now (table .exit) ≡ takeTable (now (bytes .entry)) (now (rows .entry)) (now (lambda .entry)) (now (delta .entry)) (now (table .entry)) ⌝ }
+    ensures { λ r. ⌜ r ≡ recordFor (taken (now (bytes .entry)) wide (now (rows .entry)) (now (lambda .entry)) (now (delta .entry)) (now (table .entry))) ⌝ }
+    ensures { λ _. ⌜ now (rows .exit) ≡ takeRows (now (bytes .entry)) wide (now (rows .entry)) (now (lambda .entry)) (now (delta .entry)) (now (table .entry)) ⌝ }
+    ensures { λ _. ⌜ now (lambda .exit) ≡ takeLambda (now (bytes .entry)) wide (now (rows .entry)) (now (lambda .entry)) (now (delta .entry)) (now (table .entry)) ⌝ }
+    ensures { λ _. ⌜ now (delta .exit) ≡ takeDelta (now (bytes .entry)) wide (now (rows .entry)) (now (lambda .entry)) (now (delta .entry)) (now (table .entry)) ⌝ }
+    ensures { λ _. ⌜ now (table .exit) ≡ takeTable (now (bytes .entry)) wide (now (rows .entry)) (now (lambda .entry)) (now (delta .entry)) (now (table .entry)) ⌝ }
 {
     taken_as(taking::take(bytes, rows, lambda, delta, table))
 }

@@ -13,7 +13,7 @@ taken-at t = t .before .before .before .before .before .before .before
 print-taken-requires : tie.Need-print-taken-requires
 print-taken-requires c κs =
     let t : tie.After-known-told2 = c .before .before .before .before in
-    let s = taken-sized _ _ _ _ _ (sym (ap takenOf (t .before .n .given .1)) ∙ taken-at t .take .ensures .0) in
+    let s = taken-sized _ _ _ _ _ _ (sym (ap takenOf (t .before .n .given .1)) ∙ taken-at t .take .ensures .0) in
     (s .0, s .1, search needs, search needs, search needs, search needs)
 
 pub main-spec : {M : Type 1} → statement M

@@ -2,14 +2,15 @@
 use mathlib.Core.Bool.{Bool, _&&_}
 use mathlib.Core.Path.{_≡_, refl, sym, ap₂, _∙_}
 use Prim.Native.Nat.{ℕ, suc, _+_, _*_}
-use lib.Dec.{eqb, leb}
+use lib.Dec.{leb}
 use lib.ListN.{length}
 use denote.Ref.{now}
 use borrow.Author.Needs.{needs}
 use Rattle.maps.specs.Verdict.{accepted, _then_}
 use Rattle.maps.specs.Sizes.{sizes}
-use Rattle.maps.specs.Record.{byte, field}
+use Rattle.maps.specs.Record.{oneByteBy, byte, field}
 use Rattle.answers.proofs.Refusals.{told, refused-first, refused-second}
+use Rattle.records.specs.Answers.{allowedOf}
 use Rattle.records.proofs.Whole.{Told, left-alone, lent-is, small, room-for, all-unpacked}
 use Rattle.records.proofs.unpack.Statement.{statement}
 use Rattle.records.proofs.unpack.Tie as tie
@@ -28,9 +29,9 @@ h-of s = s .before .before .before .before .byte-at2 .result
 abbrev N-of : tie.After-header → ℕ
 N-of s = s .before .two-bytes .result
 
-told-at : (s : tie.After-header) (one enough : Bool) → let a = start s .args in one ≡ (eqb (byte (now (a .bytes)) 7) 0x20 && leb (N-of s) 256)
+told-at : (s : tie.After-header) (one enough : Bool) → let a = start s .args in one ≡ oneByteBy (allowedOf (a .allowed)) (byte (now (a .bytes)) 7) (N-of s)
     → enough ≡ (leb (suc (n-of s) * N-of s) (length (now (a .rows))) && (leb (N-of s) (length (now (a .lambda))) && (leb (N-of s) (length (now (a .delta))) && leb (suc (n-of s) * N-of s) (length (now (a .table))))))
-    → Told (now (a .bytes)) (now (a .rows)) (now (a .lambda)) (now (a .delta)) (now (a .table)) (n-of s) (h-of s) (N-of s) one enough
+    → Told (now (a .bytes)) (allowedOf (a .allowed)) (now (a .rows)) (now (a .lambda)) (now (a .delta)) (now (a .table)) (n-of s) (h-of s) (N-of s) one enough
 told-at s one enough e f =
     record {
       dimension = s .before .before .before .before .before .byte-at .ensures;
@@ -41,7 +42,7 @@ told-at s one enough e f =
     }
 
 -- all that was read, and that the header is accepted
-all-told : (c : tie.After-long-enough) → let s = c .before .before .before .before in let a = start s .args in Told (now (a .bytes)) (now (a .rows)) (now (a .lambda)) (now (a .delta)) (now (a .table)) (n-of s) (h-of s) (N-of s) (c .before .one-byte .result) (c .long-enough .result)
+all-told : (c : tie.After-long-enough) → let s = c .before .before .before .before in let a = start s .args in Told (now (a .bytes)) (allowedOf (a .allowed)) (now (a .rows)) (now (a .lambda)) (now (a .delta)) (now (a .table)) (n-of s) (h-of s) (N-of s) (c .before .one-byte .result) (c .long-enough .result)
 all-told c = told-at (c .before .before .before .before) _ _ (c .before .one-byte .ensures) (c .long-enough .ensures)
 
 header-fine : (c : tie.After-long-enough) → let s = c .before .before .before .before in accepted ≡ field (now (start s .args .bytes)) 0 0x01 4 then sizes (n-of s) (N-of s) (h-of s)
@@ -51,7 +52,7 @@ returns : tie.Need-returns
 returns c =
     let s = c .before .before .before in
     let r = c .before .r .given in
-    left-alone _ _ _ _ _ (r .0 .0) (refused-first _ _ _ (lent-is (told-at s _ _ refl refl)) (r .0 .0) (told (s .header .ensures) (r .1)))
+    left-alone _ _ _ _ _ _ (r .0 .0) (refused-first _ _ _ (lent-is (told-at s _ _ refl refl)) (r .0 .0) (told (s .header .ensures) (r .1)))
 
 rest-requires : tie.Need-rest-requires
 rest-requires c κs =
@@ -63,7 +64,7 @@ returns-2 : tie.Need-returns-2
 returns-2 c =
     let m = c .before .before .before in
     let r = c .before .r2 .given in
-    left-alone _ _ _ _ _ (r .0 .0) (refused-second _ _ _ (lent-is (all-told (m .before))) (r .0 .0) (header-fine (m .before)) (told (m .rest .ensures) (r .1)))
+    left-alone _ _ _ _ _ _ (r .0 .0) (refused-second _ _ _ (lent-is (all-told (m .before))) (r .0 .0) (header-fine (m .before)) (told (m .rest .ensures) (r .1)))
 
 copy-all-requires : tie.Need-copy-all-requires
 copy-all-requires c κs =

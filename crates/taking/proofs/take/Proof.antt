@@ -18,7 +18,7 @@ check-front-requires : tie.Need-check-front-requires
 check-front-requires c κs =
     let t : tie.After-known-told2 = c .before .before .before .before in
     let f = unpacked-at t .unpack .ensures in
-    handed-on _ _ _ _ _ (sym (ap takenOf (t .before .n .given .1)) ∙ f .0) (f .1 .0) (f .1 .1 .0) (f .1 .1 .1)
+    handed-on _ _ _ _ _ _ (sym (ap takenOf (t .before .n .given .1)) ∙ f .0) (f .1 .0) (f .1 .1 .0) (f .1 .1 .1)
 
 returns : tie.Need-returns
 returns c =
@@ -27,7 +27,7 @@ returns c =
     let f = unpacked-at t .unpack .ensures in
     let g = k .check-front .ensures in
     let r = c .before .r2 .given in
-    let x = check-refused _ _ _ _ _ (sym (ap takenOf (t .before .n .given .1)) ∙ f .0) (f .1 .0) (f .1 .1 .0) (f .1 .1 .1) (g .1) (r .0 .0) (told (g .0) (r .1)) in
+    let x = check-refused _ _ _ _ _ _ (sym (ap takenOf (t .before .n .given .1)) ∙ f .0) (f .1 .0) (f .1 .1 .0) (f .1 .1 .1) (g .1) (r .0 .0) (told (g .0) (r .1)) in
     (x .0, (f .1 .0, (f .1 .1 .0, (f .1 .1 .1, x .1))))
 
 returns-2 : tie.Need-returns-2
@@ -35,7 +35,7 @@ returns-2 c =
     let u : tie.After-unpack = c .before .before .before .before .before .before .before .before .before in
     let f = u .unpack .ensures in
     let r = c .before .r .given in
-    let x = not-unpacked _ _ _ _ _ (r .0 .0) (sym (ap takenOf (r .1)) ∙ f .0) in
+    let x = not-unpacked _ _ _ _ _ _ (r .0 .0) (sym (ap takenOf (r .1)) ∙ f .0) in
     (x .0, (f .1 .0, (f .1 .1 .0, (f .1 .1 .1, x .1))))
 
 returns-3 : tie.Need-returns-3
@@ -44,7 +44,7 @@ returns-3 c =
     let t = handed-at k in
     let f = unpacked-at t .unpack .ensures in
     let g = k .check-front .ensures in
-    let x = check-accepted _ _ _ _ _ (sym (ap takenOf (t .before .n .given .1)) ∙ f .0) (f .1 .0) (f .1 .1 .0) (f .1 .1 .1) (g .1) (told (g .0) (c .enum-told .given .1)) in
+    let x = check-accepted _ _ _ _ _ _ (sym (ap takenOf (t .before .n .given .1)) ∙ f .0) (f .1 .0) (f .1 .1 .0) (f .1 .1 .1) (g .1) (told (g .0) (c .enum-told .given .1)) in
     (x .0, (f .1 .0, (f .1 .1 .0, (f .1 .1 .1, x .1))))
 
 pub take-spec : {M : Type 1} → statement M
