@@ -20,27 +20,28 @@ struct implementation {
     __typeof__(&plain_import) import;
     __typeof__(&plain_export) export;
     __typeof__(&plain_regions) regions;
+    __typeof__(&plain_join) join;
     __typeof__(&plain_survivors) survivors;
     __typeof__(&plain_census) census;
 };
 
 static const struct implementation implementations[] = {
     {"library", zg_check, zg_add, zg_unfold, zg_read, zg_read_by_levels, zg_mark_cells, zg_take, zg_write,
-     zg_decimation, zg_import, zg_export, zg_regions, zg_survivors, zg_census},
+     zg_decimation, zg_import, zg_export, zg_regions, zg_join, zg_survivors, zg_census},
     {"c", plain_check, plain_add, plain_unfold, plain_read, plain_read_by_levels, plain_mark_cells, plain_take,
-     plain_write, plain_decimation, plain_import, plain_export, plain_regions, plain_survivors, plain_census},
+     plain_write, plain_decimation, plain_import, plain_export, plain_regions, plain_join, plain_survivors, plain_census},
     {"skipping", plain_check, plain_add, plain_unfold, plain_read, plain_read_by_levels_skipping, plain_mark_cells,
-     plain_take, plain_write, plain_decimation, plain_import, plain_export, plain_regions, plain_survivors, plain_census},
+     plain_take, plain_write, plain_decimation, plain_import, plain_export, plain_regions, plain_join, plain_survivors, plain_census},
 };
 
 /* All that is lent. It is written once before anything is counted, so no page is touched for the first time then. */
-static struct pyramid map, lower, taken;
+static struct pyramid map, lower, raised, taken;
 static uint16_t table[ZG_MOST_ENTRIES], top[ZG_MOST_ENTRIES], names[ZG_MOST_DARTS];
 static uint8_t marks[ZG_MOST_DARTS], kernel[ZG_MOST_DARTS], record[ZG_MOST_RECORD];
 static uint8_t written[ZG_MOST_RECORD];
 static uint16_t edges[2048], vertices[2048], base[3 * 4096], partner_edges[2048], partner_vertices[2048];
 static unsigned partner_darts; /* half of the map's, an even number */
-static uint8_t lambda[ZG_MOST_DARTS], delta[ZG_MOST_DARTS];
+static uint8_t lambda[ZG_MOST_DARTS], delta[ZG_MOST_DARTS], joined[ZG_MOST_DARTS];
 static uint64_t words[64];
 static uint16_t cells[ZG_CELLS];
 static int32_t sums[ZG_SUMS];
@@ -141,6 +142,15 @@ static void run_regions(const struct implementation *by)
     refusals += by->regions(PYRAMID, table, len, map.h, names, map.darts).number;
 }
 
+/* Kernels 0 and 1, on a copy of lambda. */
+static void run_join(const struct implementation *by)
+{
+    memcpy(joined, raised.lambda, sizeof joined);
+    refusals += by->join(raised.n, raised.darts, raised.h, raised.rows, len, joined, raised.darts, raised.delta,
+                         raised.darts, table, len, 0)
+                    .refusal.number;
+}
+
 /* Every level. */
 static void run_survivors(const struct implementation *by)
 {
@@ -163,12 +173,21 @@ static const struct job jobs[] = {
     {"check", run_check}, {"add", run_add},   {"unfold", run_unfold}, {"read", run_read}, {"bylevels", run_by_levels},
     {"mark", run_mark},   {"take", run_take}, {"write", run_write},   {"regions", run_regions},
     {"survivors", run_survivors},
-    {"decimation", run_decimation},
+    {"decimation", run_decimation}, {"join", run_join},
     {"census", run_census},
     {"import", run_import}, {"export", run_export},
 };
 
 /* ---------------------------------------------------------------- */
+
+/* The pyramid with an empty kernel below the others, so that kernels 0 and 1 can be joined; at height 32 without its top. */
+static void raise_kernels(void)
+{
+    raised = map.h < ZG_MOST_LEVELS ? map : lower;
+    raised.h++;
+    for (unsigned d = 0; d < raised.darts; d++)
+        raised.lambda[d]++;
+}
 
 /* The pyramid without its top level, and that level's kernel. */
 static void split_top(void)
@@ -209,6 +228,7 @@ static void set_up(const char *name)
     }
     len = (size_t)(map.n + 1) * map.darts;
     split_top();
+    raise_kernels();
     record_len = write_record(&map, record);
     refusals += plain_unfold(PYRAMID, map.h, top, len).refusal.number;
     memset(table, 0, sizeof table);
@@ -220,6 +240,7 @@ static void set_up(const char *name)
     memset(names, 0, sizeof names);
     memset(written, 0, sizeof written);
     make_partner();
+    memset(joined, 0, sizeof joined);
 }
 
 static const struct implementation *implementation_named(const char *name)

@@ -1018,3 +1018,27 @@ zg_refusal plain_regions(uint8_t n, uint16_t darts, uint8_t h, const uint16_t *r
             name_region(n, darts, rows, lambda, delta, level, d, names);
     return r;
 }
+
+/* ---------------------------------------------------------------- join */
+
+zg_height plain_join(uint8_t n, uint16_t darts, uint8_t h, const uint16_t *rows, size_t rows_len, uint8_t *lambda,
+                     size_t lambda_len, const uint8_t *delta, size_t delta_len, uint16_t *table, size_t table_len,
+                     uint8_t level)
+{
+    zg_refusal bad = plain_check(n, darts, h, rows, rows_len, lambda, lambda_len, delta, delta_len, table, table_len);
+    if (bad.number)
+        return RESULT(zg_height, bad, h);
+    if (level + 1 >= h)
+        return RESULT(zg_height, {11, level}, h);
+    uint8_t joined[ZG_MOST_DARTS];
+    uint16_t mark[ZG_MOST_DARTS];
+    for (unsigned d = 0; d < darts; d++)
+        joined[d] = (uint8_t)(lambda[d] - (lambda[d] > level));
+    join_marks(darts, joined, delta, mark);
+    memcpy(table, rows, rows_len * sizeof *rows);
+    bad = climb(n, darts, h - 1u, mark, table);
+    if (bad.number)
+        return RESULT(zg_height, bad, h);
+    memcpy(lambda, joined, darts);
+    return RESULT(zg_height, .height = (uint8_t)(h - 1));
+}

@@ -15,7 +15,7 @@ set -u
 source "$(dirname "$0")/../tests/tools.sh"
 BUILD=${BUILD:-target/bench} CPU=${CPU:-qemu64}
 maps=${MAPS:-"grid2 grid3 path32 grid4 strip voxels both1 both2 both3 both4 cycle vertex"}
-jobs=${JOBS:-"check add unfold read bylevels mark take write regions survivors decimation census import export"}
+jobs=${JOBS:-"check add unfold read bylevels mark take write regions survivors decimation census import export join"}
 
 need_compiler
 [ "$LIB" != c ] || need "$binutils" "$OBJCOPY" --version

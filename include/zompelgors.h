@@ -16,7 +16,7 @@ extern "C" {
  * answers or is lent something else than before, MINOR when something is added, PATCH when neither is seen from here.
  */
 #define ZG_VERSION_MAJOR 6
-#define ZG_VERSION_MINOR 0
+#define ZG_VERSION_MINOR 1
 #define ZG_VERSION_PATCH 0
 #define ZG_VERSION (ZG_VERSION_MAJOR * 65536 + ZG_VERSION_MINOR * 256 + ZG_VERSION_PATCH)
 
@@ -84,7 +84,7 @@ enum zg_number {
     ZG_MARKS = 8,          /* Lambda, Delta or mark not allowed */
     ZG_NOT_WHOLE = 9,      /* kernel isn't whole cells */
     ZG_NOT_REMOVABLE = 10, /* cell to be removed is not removable, or cell to be contracted not contractible */
-    ZG_NO_LEVEL = 11,      /* level above h; for a decimation, h or more */
+    ZG_NO_LEVEL = 11,      /* level above h; for a decimation, h or more; for a join, the next level is */
     ZG_NO_DART = 12,       /* dart is N or more, or not on the level */
     ZG_NO_INVOLUTION = 13, /* involution above n; for marking, dimension n or more */
     ZG_NO_PASS = 14,       /* walk meets a removed or contracted dart that it can't pass */
@@ -129,7 +129,7 @@ typedef struct {
 
 typedef struct {
     zg_refusal refusal;
-    uint8_t height; /* after an add; as given in a refusal */
+    uint8_t height; /* after an add or a join; as given in a refusal */
 } zg_height;
 
 typedef struct {
@@ -370,6 +370,21 @@ zg_refusal zg_import(uint16_t m, const uint16_t *edges, size_t edges_len, const 
  */
 zg_refusal zg_export(uint8_t n, uint16_t darts, const uint16_t *rows, size_t rows_len, uint16_t *edges,
                      size_t edges_len, uint16_t *vertices, size_t vertices_len);
+
+/*
+ * Joins kernels level and level + 1 of an accepted pyramid into one. Lent to read: rows, (n+1)N; delta, N. Lent to
+ * change: lambda, N. Lent to write: table, (n+1)N.
+ * Accepted: height is h - 1; every Lambda above level has fallen by 1. It is an accepted pyramid again; its levels up
+ * to level are the same maps, and so are, under numbers one lower, the old ones from level + 2 on. table holds the top
+ * level, which is the old one.
+ * Refused 1, 2, 3, 4, 5, 6, 7, 8, 9, 10 as zg_check, which also says what table then holds; 11 (the level asked) where
+ * level + 1 is not below h, with level h in table; last 9 where the joined kernel is not made of whole cells of that
+ * level (the level asked, the involution that leaves the kernel, the dart), with that level in table. (10, which would
+ * come next, never does.) height is then h as given, and lambda is untouched.
+ */
+zg_height zg_join(uint8_t n, uint16_t darts, uint8_t h, const uint16_t *rows, size_t rows_len,
+                  uint8_t *lambda, size_t lambda_len, const uint8_t *delta, size_t delta_len,
+                  uint16_t *table, size_t table_len, uint8_t level);
 
 #ifdef __cplusplus
 }

@@ -17,18 +17,19 @@ const char *const job_names[JOBS] = {
     [CHECK_BASE] = "check_base", [CHECK] = "check", [ADD] = "add", [MARKS] = "marks", [READ] = "read",
     [BY_LEVELS] = "bylevels", [UNFOLD] = "unfold", [ROW] = "row", [SURVIVORS] = "survivors", [MARK] = "mark",
     [TAKE] = "take", [WRITE] = "write", [DECIMATION] = "decimation", [IMPORT] = "import", [EXPORT] = "export",
-    [CENSUS] = "census", [REGIONS] = "regions", [LEVELS] = "levels", [CENSUS_PROGRAM] = "census_program"
+    [CENSUS] = "census", [REGIONS] = "regions", [JOIN] = "join",
+    [LEVELS] = "levels", [CENSUS_PROGRAM] = "census_program"
 };
 const char *const case_forms[JOBS] = {
     [CHECK_BASE] = "nDR", [CHECK] = "nDhRLET", [ADD] = "nDhRLEMT", [MARKS] = "nDhLElM", [READ] = "nDhRLElid",
     [BY_LEVELS] = "nDhRLElid", [UNFOLD] = "nDhRLElT", [ROW] = "nDhRTli", [SURVIVORS] = "DhLlW", [MARK] = "nDTiM",
     [TAKE] = "BRLET", [WRITE] = "nDhRLETB", [DECIMATION] = "nDhRLETl", [IMPORT] = "DPVR", [EXPORT] = "nDRPV",
-    [CENSUS] = "nDhRLETCS", [REGIONS] = "nDhRLETlN", [LEVELS] = "B", [CENSUS_PROGRAM] = "B"
+    [CENSUS] = "nDhRLETCS", [REGIONS] = "nDhRLETlN", [JOIN] = "nDhRLETl", [LEVELS] = "B", [CENSUS_PROGRAM] = "B"
 };
 const char *const answer_forms[JOBS] = {
     [CHECK_BASE] = "", [CHECK] = "T", [ADD] = "LET", [MARKS] = "M", [READ] = "", [BY_LEVELS] = "", [UNFOLD] = "T",
     [ROW] = "", [SURVIVORS] = "W", [MARK] = "M", [TAKE] = "RLET", [WRITE] = "TB", [DECIMATION] = "FT", [IMPORT] = "R",
-    [EXPORT] = "PV", [CENSUS] = "TCS", [REGIONS] = "TN", [LEVELS] = "", [CENSUS_PROGRAM] = ""
+    [EXPORT] = "PV", [CENSUS] = "TCS", [REGIONS] = "TN", [JOIN] = "LT", [LEVELS] = "", [CENSUS_PROGRAM] = ""
 };
 
 enum place call_place = BETWEEN_CANARIES;
@@ -328,6 +329,18 @@ static void call_decimation(struct call *c)
     memcpy(&c->factor, &r.factor, sizeof r.factor);
 }
 
+static void call_join(struct call *c)
+{
+    const uint16_t *rows = rows_in(c);
+    uint8_t *lambda = lambda_out(c);
+    const uint8_t *delta = delta_in(c);
+    uint16_t *table = table_out(c);
+    zg_height r = zg_join((uint8_t)c->n, (uint16_t)c->darts, (uint8_t)c->h, rows, c->rows_len, lambda, c->lambda_len,
+                          delta, c->delta_len, table, c->table_len, (uint8_t)c->level);
+    take_refusal(c, r.refusal);
+    take_found(c, 1, r.height, 0, 0);
+}
+
 static void call_census(struct call *c)
 {
     const uint16_t *rows = rows_in(c);
@@ -431,7 +444,8 @@ void call_job(struct call *c)
         [READ] = call_read, [BY_LEVELS] = call_by_levels, [UNFOLD] = call_unfold, [ROW] = call_row,
         [SURVIVORS] = call_survivors, [MARK] = call_mark, [TAKE] = call_take, [WRITE] = call_write,
         [DECIMATION] = call_decimation, [IMPORT] = call_import, [EXPORT] = call_export, [CENSUS] = call_census,
-        [REGIONS] = call_regions, [LEVELS] = call_levels, [CENSUS_PROGRAM] = call_census_program,
+        [REGIONS] = call_regions, [JOIN] = call_join, [LEVELS] = call_levels,
+        [CENSUS_PROGRAM] = call_census_program,
     };
     c->founds = 0;
     c->factor = 0;

@@ -219,6 +219,7 @@ inline void answer_or_throw(Case& c, Answer& a)
     case IMPORT: by::import_map(c.darts, c.edges, c.vertices, c.rows); break;
     case EXPORT: by::export_map(c.n, c.darts, c.rows, c.edges, c.vertices); break;
     case REGIONS: by::regions(c.n, c.darts, c.h, c.rows, c.lambda, c.delta, c.table, c.level, c.names); break;
+    case JOIN: found(a, by::join(c.n, c.darts, c.h, c.rows, c.lambda, c.delta, c.table, c.level)); break;
     case LEVELS: a.text = by::levels(c.bytes); break;
     case CENSUS: by::census(c.n, c.darts, c.h, c.rows, c.lambda, c.delta, c.table, c.cells, c.sums); break;
     case CENSUS_PROGRAM: a.text = by::census_program(c.bytes); break;
@@ -228,10 +229,10 @@ inline void answer_or_throw(Case& c, Answer& a)
 
 inline Answer answer_independently(Case& c)
 {
-    static const unsigned founds[JOBS] = {0, 0, 1, 0, 3, 2, 2, 3, 1, 0, 3, 1, 1, 0, 0, 0, 0, 0, 0};
+    static const unsigned founds[JOBS] = {0, 0, 1, 0, 3, 2, 2, 3, 1, 0, 3, 1, 1, 0, 0, 0, 0, 1, 0, 0};
     Answer a;
     a.founds = founds[c.what];
-    if (c.what == ADD)
+    if (c.what == ADD || c.what == JOIN)
         found(a, c.h); // the height as given, if refused
     try {
         answer_or_throw(c, a);

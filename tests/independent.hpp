@@ -877,6 +877,26 @@ inline void regions(unsigned n, unsigned darts, unsigned h, const Entries& rows,
     names = lowest_reached(Map(n, darts, rows), lambda, delta, level);
 }
 
+// Returns the new height. The joined kernel is made of the two and tested on its level; the table keeps the top.
+inline unsigned join(unsigned n, unsigned darts, unsigned h, const Entries& rows, Bytes& lambda, const Bytes& delta,
+                     Entries& table, unsigned level)
+{
+    check(n, darts, h, rows, lambda, delta, table);
+    demand(level + 1 < h, 11, level);
+    const Entries top = table;
+    const Map at = climb_to_top(Map(n, darts, rows), level, lambda, delta, table);
+    Kernel both = kernel_of(lambda, delta, level);
+    const Kernel next = kernel_of(lambda, delta, level + 1);
+    for (unsigned d = 0; d < darts; d++)
+        if (both[d] == stay)
+            both[d] = next[d];
+    climb(at, both, level, table);
+    table = top;
+    for (auto& one : lambda)
+        one = std::uint8_t(one - (one > level));
+    return h - 1;
+}
+
 // What the program levels prints, its lines joined by " / ".
 inline std::string levels(const Bytes& bytes)
 {

@@ -12,7 +12,7 @@ from pathlib import Path
 ROOT = Path(__file__).resolve().parent.parent
 CRATES = ROOT / "crates"
 # the definitions that the answers of the jobs are read by; all else that a contract cites is in crates/maps/specs
-ANSWERS = ["answers/specs/Numbers", "answers/specs/Marked", "answers/specs/Lent", "questions/specs/Answers", "reading/specs/Answers", "rows/specs/Answers", "checking/specs/Answers", "records/specs/Answers", "taking/specs/Answers", "writing/specs/Answers", "shrinking/specs/Answers", "converting/specs/Answers", "zompelgors/specs/Flat", "zompelgors_regions/specs/Flat"]
+ANSWERS = ["answers/specs/Numbers", "answers/specs/Marked", "answers/specs/Lent", "questions/specs/Answers", "reading/specs/Answers", "rows/specs/Answers", "checking/specs/Answers", "records/specs/Answers", "taking/specs/Answers", "writing/specs/Answers", "shrinking/specs/Answers", "converting/specs/Answers", "joining/specs/Answers", "zompelgors/specs/Flat", "zompelgors_regions/specs/Flat"]
 
 
 def public_functions(crate):

@@ -579,6 +579,8 @@ inline Case random_case(Random& r, const Pyramid& source)
         c.level = r.below(c.h);
     if (c.what == IMPORT || c.what == EXPORT)
         lend_partner(r, c);
+    if (c.what == JOIN && c.h > 1 && r.chance(90))
+        c.level = r.below(c.h - 1);
     drop_the_rest(c);
     if (!record)
         damage(r, c);

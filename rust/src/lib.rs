@@ -122,6 +122,39 @@ pub fn add(
     answer.accepted().map(|r| Level(r.height))
 }
 
+/// Joins the kernels of a level and the next into one: the new height. Λ above that level falls with it, and the table
+/// holds the top level. Where the joined kernel is refused, which is by number 9, the table holds the level asked.
+#[allow(clippy::too_many_arguments)]
+pub fn join(
+    n: Dimension,
+    darts: u16,
+    h: Level,
+    rows: &[u16],
+    lambda: &mut [u8],
+    delta: &[u8],
+    table: &mut [u16],
+    level: Level,
+) -> Result<Level, Refusal> {
+    // Safety: every pointer comes from a slice with its own length, and only exclusive ones are written through.
+    let answer = unsafe {
+        raw::zg_join(
+            n.0,
+            darts,
+            h.0,
+            rows.as_ptr(),
+            rows.len(),
+            lambda.as_mut_ptr(),
+            lambda.len(),
+            delta.as_ptr(),
+            delta.len(),
+            table.as_mut_ptr(),
+            table.len(),
+            level.0,
+        )
+    };
+    answer.accepted().map(|r| Level(r.height))
+}
+
 /// Reads the mark row of a level back: Δ where Λ is that level, else [`STAY`]; for level h [`STAY`] throughout.
 pub fn marks_of(
     n: Dimension,

@@ -1,6 +1,6 @@
 //! A folded pyramid that owns its tables.
 use crate::answers::{Dimension, Level, Refusal};
-use crate::{add, check_base, take, Pyramid, MOST_DARTS, MOST_ENTRIES};
+use crate::{add, check_base, join, take, Pyramid, MOST_DARTS, MOST_ENTRIES};
 
 /// A pyramid in folded form with tables of its own. It begins as a base or as a record, and grows level by level;
 /// [`PyramidBuf::lend`] lends it to every other job.
@@ -59,6 +59,21 @@ impl PyramidBuf {
             delta,
         } = self;
         *h = add(*n, *darts, *h, rows, lambda, delta, marks, table)?;
+        Ok(*h)
+    }
+
+    /// Joins the kernels of a level and the next into one: the new height. The table, of [`PyramidBuf::entries`] entries,
+    /// then holds the top level; where the joined kernel is refused it holds the level asked.
+    pub fn join(&mut self, level: Level, table: &mut [u16]) -> Result<Level, Refusal> {
+        let PyramidBuf {
+            n,
+            darts,
+            h,
+            rows,
+            lambda,
+            delta,
+        } = self;
+        *h = join(*n, *darts, *h, rows, lambda, delta, table, level)?;
         Ok(*h)
     }
 

@@ -33,7 +33,7 @@ answers! {
     ZgUnfolding { count: u32, since: u8 }
     /// `zg_count`: survivors.
     ZgCount { count: u32 }
-    /// `zg_height`: after an add; as given in a refusal.
+    /// `zg_height`: after an add or a join; as given in a refusal.
     ZgHeight { height: u8 }
     /// `zg_part`: unfolded 0: a part of base, 1: of unfolded.
     ZgPart { unfolded: u8, start: u16, length: u16 }
@@ -252,4 +252,19 @@ extern "C" {
         vertices: *mut u16,
         vertices_len: usize,
     ) -> ZgRefusal;
+
+    pub fn zg_join(
+        n: u8,
+        darts: u16,
+        h: u8,
+        rows: *const u16,
+        rows_len: usize,
+        lambda: *mut u8,
+        lambda_len: usize,
+        delta: *const u8,
+        delta_len: usize,
+        table: *mut u16,
+        table_len: usize,
+        level: u8,
+    ) -> ZgHeight;
 }

@@ -187,6 +187,30 @@ fn segment_shrinks_to_nothing() {
 }
 
 #[test]
+fn corners_of_the_square_joined() {
+    let mut square = Grown::new(1, &SQUARE);
+    square.add(Dimension(0), &[1, 2]).unwrap();
+    square.add(Dimension(0), &[3, 4]).unwrap();
+    let top = square.table.clone();
+    assert_eq!(square.pyramid.join(Level(0), &mut square.table), Ok(Level(1)));
+    assert_eq!(square.lend().lambda, [1, 0, 0, 0, 0, 1, 1, 1]);
+    assert_eq!(square.table, top);
+    assert_eq!(square.lend().check(&mut [0; 16]), Ok(()));
+    assert_eq!(square.read(1, 0, 0), link(5, 5, 1));
+}
+
+#[test]
+fn star_not_joined() {
+    let mut star = star();
+    let refusal = star.pyramid.join(Level(0), &mut star.table).unwrap_err();
+    assert_eq!(refusal, refused(9, 0, 1, 1));
+    assert_eq!(star.table, STAR);
+    assert_eq!(star.lend().h, Level(2));
+    let refusal = star.pyramid.join(Level(1), &mut star.table).unwrap_err();
+    assert_eq!(refusal, refused(11, 1, 0, 0));
+}
+
+#[test]
 fn p10_star_vertex() {
     assert_eq!(
         Grown::new(2, &STAR).add(Dimension(0), &[0, 1, 2, 3, 4, 5]),

@@ -12,6 +12,7 @@ use Rattle.maps.specs.Kernel.{Kernel}
 use Rattle.maps.specs.Table.{absent}
 use Rattle.maps.specs.Folded.{On, refusedMarks, marks, level}
 use Rattle.maps.specs.Pyramid.{Pyramid}
+use Rattle.maps.specs.Join.{WholeCells}
 use Rattle.maps.specs.Check.{strays, notTwice, notCommuting, at5, at6, at7, check5, check6, check7, checkMap, leaves, differs, notFitting, at9, at10, check9, check10, checkKernel, at8, check8, kernelAt, checkKernels, checkPyramid}
 use Rattle.laws.proofs.Verdicts.{then-accepted, when-accepted, scan-accepted, scan-all, and-rest, and-both, and-false}
 use Rattle.facts.proofs.Commuting.{kernel-commutes, commutes-kernel}
@@ -71,18 +72,23 @@ module _ (a : Involutions) (n N : ℕ) (present : ℕ → Bool) where
       five-at s i d li ld true q = let w = s .valid .inside i d li (ld, q) in rw (q, lt-ltb (a i d) N (w .0), w .1)
       five-at s i d li ld false q = rw q (not-eq (a i d) absent (s .empty i d li ld q))
 
+-- number 9 tests whole cells
+pub check9-whole : (a : Involutions) (n N : ℕ) (mark : ℕ → ℕ) (l : ℕ) (present : ℕ → Type 0) → ((d : ℕ) → present d → d < N) → check9 a n N mark l ≡ accepted → WholeCells a n present mark
+unfolding at9 check9
+check9-whole a n N mark l present bound e d j p q lj ne =
+    let x = when-accepted (leaves a n N mark l d j) 9 l j d (scan-accepted (suc n) (at9 a n N mark l d) (scan-accepted N (λ d. scan (suc n) (at9 a n N mark l d)) e d (bound d p)) j (omega arith)) in
+    let X = eqb (mark (a j d)) (mark d) in
+    let r = and-rest (isMark n (mark d)) (not (eqb j (between (mark d) .0)) && not X) q x in
+    eqb-true (mark (a j d)) (mark d) (not-false X (and-rest (not (eqb j (between (mark d) .0))) (not X) (rw (ne-eqb j (between (mark d) .0) ne)) r))
+
 -- the check of a kernel
 module _ (a : Involutions) (n N : ℕ) (mark : ℕ → ℕ) (l : ℕ) (present : ℕ → Type 0) (v : Valid a n present) (bound : (d : ℕ) → present d → d < N) where
   pub kernel-sound : checkKernel a n N mark l ≡ accepted → Kernel a n present mark
   unfolding at9 at10 check9 check10 checkKernel
   kernel-sound e =
       let e₉ = then-accepted (check9 a n N mark l) (check10 a n N mark l) e in
-      let nine : (d j : ℕ) → d < N → j ≤ n → leaves a n N mark l d j ≡ false = λ d j ld lj. when-accepted (leaves a n N mark l d j) 9 l j d (scan-accepted (suc n) (at9 a n N mark l d) (scan-accepted N (λ d. scan (suc n) (at9 a n N mark l d)) (e₉ .0) d ld) j (omega arith)) in
       let ten : (d : ℕ) → d < N → notFitting a n N mark l d ≡ false = λ d ld. when-accepted (notFitting a n N mark l d) 10 l (between (mark d) .1) d (scan-accepted N (at10 a n N mark l) (e₉ .1) d ld) in
-      let whole : (d j : ℕ) → present d → isMark n (mark d) ≡ true → j ≤ n → (j ≡ between (mark d) .0 → ⊥) → mark (a j d) ≡ mark d = λ d j p q lj ne.
-      let X = eqb (mark (a j d)) (mark d) in
-      let r = and-rest (isMark n (mark d)) (not (eqb j (between (mark d) .0)) && not X) q (nine d j (bound d p) lj) in
-      eqb-true (mark (a j d)) (mark d) (not-false X (and-rest (not (eqb j (between (mark d) .0))) (not X) (rw (ne-eqb j (between (mark d) .0) ne)) r)) in
+      let whole = check9-whole a n N mark l present bound (e₉ .0) in
       commutes-kernel a n present mark (v .inside) whole (λ d p q h.
       let X = a (beyond (mark d)) (a (between (mark d) .1) d) in
       let Y = a (between (mark d) .1) (a (beyond (mark d)) d) in

@@ -21,12 +21,17 @@ pub mod AddedJobs
 pub mod ExactJobs
 pub mod MarksJobs
 pub mod Namings
+pub mod Splits
+pub mod SplitKernels
 pub mod Trails
 pub mod Towers
 pub mod TowerLinks
+pub mod TowerJoins
 pub mod Pyramids
+pub mod Joining
 pub mod Links
 pub mod LinkedJobs
+pub mod JoinedJobs
 pub mod EveryN
 pub mod Duals
 pub mod DualReadings

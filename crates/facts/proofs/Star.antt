@@ -1,19 +1,23 @@
--- Nothing is vacuous: the star of P8 and P9, its dual, and a kernel of either kind are accepted pyramids, and the facts are used at them. Assumes nothing.
-use mathlib.Core.Path.{_≡_}
+-- Nothing is vacuous: the star of P8 and P9, its dual, a kernel of either kind and the square of P4 are accepted pyramids, and the facts are used at them. Assumes nothing.
+use mathlib.Core.Path.{_≡_, refl}
 use Prim.Native.Nat.{_≤_}
 use lib.Dec.{lit<, lit≤}
+use Rattle.maps.specs.Verdict.{scan}
 use Rattle.maps.specs.Count.{count}
 use Rattle.maps.specs.Mark.{isMark, between}
 use Rattle.maps.specs.Table.{entry, each}
-use Rattle.maps.specs.Folded.{marks, foldΛ, foldΔ}
+use Rattle.maps.specs.Folded.{On, marks, level, foldΛ, foldΔ}
 use Rattle.maps.specs.Walk.{ended, walkFrom, walk}
 use Rattle.maps.specs.Cost.{reads}
 use Rattle.maps.specs.Pyramid.{Pyramid}
-use Rattle.maps.proofs.Small.{star, mixed, costs, neighbour, direct, levelwise, small-maps, small-contractions}
-use Rattle.facts.proofs.Checks.{check-pyramid}
+use Rattle.maps.specs.Check.{at9, check9}
+use Rattle.maps.specs.Join.{joinΛ}
+use Rattle.maps.proofs.Small.{star, corners, mixed, costs, neighbour, direct, levelwise, small-maps, small-contractions}
+use Rattle.facts.proofs.Checks.{check-pyramid, check9-whole}
 use Rattle.facts.proofs.Folding.{folded-back}
 use Rattle.facts.proofs.Facts.{facts}
 use Rattle.facts.proofs.DualReadings.{Dual, duality}
+use Rattle.facts.proofs.Joining.{Joined, joins}
 
 pub star-pyramid : Pyramid (entry 12 (star .rows)) 2 12 2 (each (star .lambda)) (each (star .delta))
 star-pyramid = check-pyramid (entry 12 (star .rows)) 2 12 2 (each (star .lambda)) (each (star .delta)) (lit≤ tt) (small-maps .p9 .0)
@@ -30,6 +34,16 @@ star-walk = facts (entry 12 (star .rows)) 2 12 2 (each (star .lambda)) (each (st
 
 pub star-levels : levelwise star 2 0 7 ≡ direct star 2 0 7
 star-levels = facts (entry 12 (star .rows)) 2 12 2 (each (star .lambda)) (each (star .delta)) star-pyramid 2 (lit≤ tt) .alike 0 7 (lit≤ tt) (lit< tt, lit≤ tt)
+
+-- the square with the corners {1,2} and then {3,4} removed: joined into one kernel, by the law and not by computation
+pub corners-pyramid : Pyramid (entry 8 (corners .rows)) 1 8 2 (each (corners .lambda)) (each (corners .delta))
+corners-pyramid = check-pyramid (entry 8 (corners .rows)) 1 8 2 (each (corners .lambda)) (each (corners .delta)) (lit≤ tt) (small-maps .p3 .0)
+
+pub corners-joined : Joined (entry 8 (corners .rows)) 1 8 1 (each (corners .lambda)) (each (corners .delta)) 0
+unfolding isMark between scan level at9 check9
+corners-joined =
+    joins (entry 8 (corners .rows)) 1 8 1 (each (corners .lambda)) (each (corners .delta)) corners-pyramid 0 (lit< tt)
+    (check9-whole (entry 8 (corners .rows)) 1 8 (marks 1 (joinΛ 0 (each (corners .lambda))) (each (corners .delta)) 0) 0 (On 8 (each (corners .lambda)) 0) (λ d o. o .0) refl)
 
 -- dart 3's marks, read back and folded again
 pub star-folded : (foldΛ 2 (marks 2 (each (star .lambda)) (each (star .delta))) 2 3 ≡ 0) × (foldΔ 2 (marks 2 (each (star .lambda)) (each (star .delta))) 2 3 ≡ 1)

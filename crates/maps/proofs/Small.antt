@@ -19,6 +19,7 @@ use Rattle.maps.specs.Cost.{reads, cost}
 use Rattle.maps.specs.Sizes.{number1, number2, number3, sizes, number4}
 use Rattle.maps.specs.CheckPyramid.{checkLent}
 use Rattle.maps.specs.Decimation.{decimationLent, decimationEmpty, decimationFactor}
+use Rattle.maps.specs.Join.{joinLent, joinHeight, joinLambda}
 use Rattle.maps.specs.Check.{at5, at6, at7, check5, check6, check7, checkMap, at9, at10, check9, check10, checkKernel, at8, check8, kernelAt, checkKernels, checkPyramid}
 use Rattle.maps.specs.CheckPyramid.{leftBehind, checkLent, checkLeaves}
 use Rattle.maps.specs.Record.{wide, field, formed, recordRows, recordLambda, recordDelta, recordLent, takeLent, takeRows, takeLambda, takeDelta, takeTable}
@@ -185,6 +186,30 @@ unfolding isMark between hasBeyond beyond scan count goOn removal level at5 at6 
 small-factors = record {
   star-factors = (refl, refl, refl, refl);
   segment-empty = (refl, refl, refl);
+}
+
+-- ---- kernels joined: what is asked of a level, the rows lent as the table
+
+abbrev joining : Lent → ℕ → Verdict
+joining p l = joinLent p.n p.N p.h p.rows p.lambda p.delta p.rows l
+
+abbrev height : Lent → ℕ → ℕ
+height p l = joinHeight p.n p.N p.h p.rows p.lambda p.delta p.rows l
+
+abbrev lambdas : Lent → ℕ → List ℕ
+lambdas p l = joinLambda p.n p.N p.h p.rows p.lambda p.delta p.rows l
+
+pub record SmallJoins : Type 0 where
+  -- the square's two corners become one kernel
+  pub corners-one : (joining corners 0 ≡ accepted) × (height corners 0 ≡ 1) × (lambdas corners 0 ≡ 1 ∷ 0 ∷ 0 ∷ 0 ∷ 0 ∷ 1 ∷ 1 ∷ 1 ∷ [])
+  -- the star's vertex {0,1,4,5} is a cell only when the edge is gone; above level 0 there are no two kernels
+  pub star-two : (joining star 0 ≡ refused 9 0 1 1) × (joining star 1 ≡ refused 11 1 0 0) × (height star 0 ≡ 2) × (lambdas star 0 ≡ star .lambda)
+
+pub small-joins : SmallJoins
+unfolding isMark between hasBeyond beyond scan goOn removal listed level at5 at6 at7 check5 check6 check7 checkMap at9 at10 check9 check10 checkKernel at8 check8 kernelAt checkKernels checkPyramid number1 number2 number3 sizes number4 checkLent joinLent joinHeight joinLambda
+small-joins = record {
+  corners-one = (refl, refl, refl);
+  star-two = (refl, refl, refl, refl);
 }
 
 -- ---- contraction

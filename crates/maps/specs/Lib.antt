@@ -34,4 +34,5 @@ pub mod Census
 pub mod Partner
 pub mod Regions
 pub mod Convert
+pub mod Join
 pub mod Accepted

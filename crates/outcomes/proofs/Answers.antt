@@ -37,6 +37,9 @@ use Rattle.maps.specs.Decimation.{double}
 use Rattle.shrinking.specs.Answers.{Outcome as Shrinking, factorOf}
 use Rattle.shrinking.specs.declared.Factor.{Factor}
 use Rattle.shrinking.specs.declared.Factor.the-variants.{By, Empty, Refused as NotAnswered}
+use Rattle.joining.specs.Answers.{joinedOf, heightOf as lowerOf}
+use Rattle.joining.specs.declared.Joined.{Joined}
+use Rattle.joining.specs.declared.Joined.the-variants.{Lowered, Refused as NotJoined}
 
 abbrev level : ℕ → Level
 level l = record { 0 = l }
@@ -172,6 +175,17 @@ pub factor-told : (f : Factor) → factorFrom (factorOf f) ≡ f
 factor-told (By factor) = refl
 factor-told Empty = refl
 factor-told (NotAnswered r) = refusal-told (λ v. factorFrom (record { verdict = v; empty = 0; factor = double 0 })) NotAnswered (λ k l i d. refl) r
+
+-- the answer of a join in a pyramid of height h: verdict and height
+abbrev pub valuesOfJoined : ℕ → Joined → Verdict × ℕ
+valuesOfJoined h j = (joinedOf j, lowerOf h j)
+
+abbrev pub joinedFrom : Verdict × ℕ → Joined
+joinedFrom x = fromVerdict (Lowered (level (x .1))) NotJoined (x .0)
+
+pub joined-told : (h : ℕ) (j : Joined) → joinedFrom (valuesOfJoined h j) ≡ j
+joined-told h (Lowered new) = refl
+joined-told h (NotJoined r) = refusal-told (fromVerdict (Lowered (level h)) NotJoined) NotJoined (λ k l i d. refl) r
 
 -- the four numbers of a refusal
 abbrev pub numbersFrom : Verdict → Numbers

@@ -23,6 +23,7 @@ use Rattle.zompelgors.proofs.zg_import.Reads as import-map
 use Rattle.zompelgors.proofs.zg_export.Reads as export-map
 use Rattle.zompelgors.specs.Flat.{refusalFor}
 use Rattle.zompelgors_regions.proofs.zg_regions.Reads as regions
+use Rattle.zompelgors.proofs.zg_join.Reads as join
 use Rattle.outcomes.proofs.One.{OneOutcome, one-outcome, nothing, three, same-three, four, same-four, pair, same-pair}
 use Rattle.outcomes.proofs.Cells.{marking-same}
 use Rattle.outcomes.proofs.Partner.{import-same, export-same}
@@ -99,3 +100,7 @@ zg-export-one κs a r r′ s s′ c c′ =
 pub zg-regions-one : (κs : Lfts 5) → OneOutcome (regions.Learnt κs) (λ r. r) (λ s. pair (now (s .1 .1 .1 .1 .1 .1 .0)) (now (s .1 .1 .1 .1 .1 .1 .1 .1 .0)))
 zg-regions-one κs a r r′ s s′ c c′ =
     (c .0 ∙ sym (c′ .0), same-pair (c .1 .0 ∙ sym (c′ .1 .0)) (naming-same (a .0) (a .1 .0) (a .1 .1 .0) (now (a .1 .1 .1 .0)) (now (a .1 .1 .1 .1 .0)) (now (a .1 .1 .1 .1 .1 .0)) (now (a .1 .1 .1 .1 .1 .1 .0)) (a .1 .1 .1 .1 .1 .1 .1 .0) (now (a .1 .1 .1 .1 .1 .1 .1 .1 .0)) _ _ (c .1 .1) (c′ .1 .1)))
+
+-- Λ and the table
+pub zg-join-one : (κs : Lfts 4) → OneOutcome (join.Learnt κs) (λ r. r) (λ s. pair (now (s .1 .1 .1 .1 .0)) (now (s .1 .1 .1 .1 .1 .1 .0)))
+zg-join-one κs = one-outcome _ _ _ (λ a r. r) (λ r. r) (λ a r. refl) _ _ (λ a r s c. (c .0, same-pair (c .1 .0) (c .1 .1)))

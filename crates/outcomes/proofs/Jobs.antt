@@ -45,8 +45,9 @@ use Rattle.partner.proofs.import.Reads as import-map
 use Rattle.partner.proofs.export.Reads as export-map
 use Rattle.regions.proofs.name_regions.Reads as name-regions
 use Rattle.converting.proofs.convert.Reads as convert
+use Rattle.joining.proofs.join.Reads as join
 use Rattle.outcomes.proofs.One.{OneOutcome, one-outcome, nothing, three, same-three, four, same-four, five, same-five, pair, same-pair}
-use Rattle.outcomes.proofs.Answers.{checkFrom, check-told, readingFrom, reading-told, valuesOfLink, linkFrom, link-told, valuesOfTotal, totalFrom, total-told, valuesOfSurvivors, survivorsFrom, survivors-told, valuesOfAdded, addedFrom, added-told, takenFrom, taken-told, writtenFrom, written-told, factorFrom, factor-told, numbersFrom, numbers-told}
+use Rattle.outcomes.proofs.Answers.{checkFrom, check-told, readingFrom, reading-told, valuesOfLink, linkFrom, link-told, valuesOfTotal, totalFrom, total-told, valuesOfSurvivors, survivorsFrom, survivors-told, valuesOfAdded, addedFrom, added-told, takenFrom, taken-told, writtenFrom, written-told, factorFrom, factor-told, valuesOfJoined, joinedFrom, joined-told, numbersFrom, numbers-told}
 use Rattle.outcomes.proofs.Cells.{marking-same}
 use Rattle.outcomes.proofs.Partner.{import-same, export-same}
 use Rattle.outcomes.proofs.Regions.{naming-same}
@@ -153,6 +154,12 @@ pub convert-one : (κs : Lfts 6) → OneOutcome (convert.Learnt κs) (λ r. r) (
 convert-one κs =
     one-outcome _ _ _ (λ a. writtenOf) writtenFrom (λ a. written-told) _ _ (λ a r s c.
     (c .0, same-five (c .1 .0) (c .1 .1 .0) (c .1 .1 .1 .0) (c .1 .1 .1 .1 .0) (c .1 .1 .1 .1 .1)))
+
+-- Λ and the table
+pub join-one : (κs : Lfts 4) → OneOutcome (join.Learnt κs) (λ r. r) (λ s. pair (now (s .1 .1 .1 .1 .0)) (now (s .1 .1 .1 .1 .1 .1 .0)))
+join-one κs =
+    one-outcome _ _ _ (λ a. valuesOfJoined (a .1 .1 .0 .0)) joinedFrom (λ a. joined-told (a .1 .1 .0 .0)) _ _ (λ a r s c.
+    (ap₂ (λ v h. (v, h)) (c .0) (c .1 .0), same-pair (c .1 .1 .0) (c .1 .1 .1)))
 
 -- what jobs share
 pub sizes-one : (κs : Lfts 0) → OneOutcome (sizes.Learnt κs) (λ r. r) nothing

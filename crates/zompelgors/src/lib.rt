@@ -23,6 +23,7 @@ ghost use Rattle.maps.specs.Write.{writeTable, writeLeaves};
 ghost use Rattle.maps.specs.Decimation.{decimationTable};
 ghost use Rattle.maps.specs.Census.{censusLent, censusTable, CensusPutLeaves};
 ghost use Rattle.maps.specs.Partner.{importLent, ImportLeaves, exportLent, Exports};
+ghost use Rattle.maps.specs.Join.{joinLent, joinHeight, joinLambda, joinLeaves};
 ghost use Rattle.answers.specs.Numbers.{refusalOf, verdictOf};
 ghost use Rattle.checking.specs.Answers.{addedOf, heightOf};
 ghost use Rattle.questions.specs.Answers.{valueOf};
@@ -32,6 +33,7 @@ ghost use Rattle.records.specs.Answers.{takenOf};
 ghost use Rattle.taking.specs.Answers.{taken};
 ghost use Rattle.writing.specs.Answers.{writtenOf, writing};
 ghost use Rattle.shrinking.specs.Answers.{factorOf, decimating};
+ghost use Rattle.joining.specs.Answers.{joinedOf, heightOf as lowerOf};
 ghost use Rattle.zompelgors.specs.Flat.{refusalFor, saidBy, readingFor, linkFor, countFor, unfoldingFor, heightFor, partFor, recordFor, writtenFor, factorFor, versionFor};
 
 // The document's number and values; all 0 where accepted.
@@ -75,7 +77,7 @@ pub struct ZgCount {
     pub count: u32,
 }
 
-// The height after a level is added; as given in a refusal.
+// The height after a level is added or two kernels are joined; as given in a refusal.
 #[repr(C)]
 pub struct ZgHeight {
     pub refusal: ZgRefusal,
@@ -259,6 +261,25 @@ fn grown(h: u8, answer: checking::Added) -> ZgHeight
     }
 }
 
+// The answer of a join, where this was the height.
+fn lowered(height: u8, answer: joining::Joined) -> ZgHeight
+    ensures { λ r. ⌜ r ≡ heightFor (joinedOf answer) (lowerOf height answer) ⌝ }
+{
+    match answer {
+        joining::Joined::Lowered(new) => {
+            let refusal = accepts();
+            ZgHeight {
+                refusal,
+                height: new.0,
+            }
+        },
+        joining::Joined::Refused(why) => {
+            let refusal = refused(why);
+            ZgHeight { refusal, height }
+        },
+    }
+}
+
 // Is the row of a level other than 0?
 fn is_unfolded(level: u8) -> u8
     ensures { λ r. ⌜ r ≡ cond (eqb level 0) 0 1 ⌝ }
@@ -372,12 +393,12 @@ fn factor_as(answer: shrinking::Factor) -> ZgFactor
     }
 }
 
-// The version of this interface: 6.0.0.
+// The version of this interface: 6.1.0.
 #[no_mangle]
 pub extern "C" fn zg_version() -> u32
-    ensures { λ r. ⌜ r ≡ versionFor 6 0 0 ⌝ }
+    ensures { λ r. ⌜ r ≡ versionFor 6 1 0 ⌝ }
 {
-    393216
+    393472
 }
 
 // Checks a base.
@@ -702,4 +723,33 @@ pub extern "C" fn zg_export(
     ensures { λ r. ⌜ ((answer : Verdict) × (r ≡ refusalFor answer) × Exports (now (rows .entry)) (now (edges .entry)) (now (vertices .entry)) (exportLent n darts (now (rows .entry)) (now (edges .entry)) (now (vertices .entry))) answer (now (edges .exit)) (now (vertices .exit))) ⌝ }
 {
     checked(partner::export(Dim(n), darts, rows, edges, vertices))
+}
+
+// Joins the kernels of a level and the next of an accepted pyramid; Λ and the height fall.
+#[no_mangle]
+pub extern "C" fn zg_join(
+    n: u8,
+    darts: u16,
+    h: u8,
+    rows: &[u16],
+    lambda: &mut [u8],
+    delta: &[u8],
+    table: &mut [u16],
+    level: u8,
+) -> ZgHeight
+    ensures { λ r. ⌜ r ≡ heightFor (joinLent n darts h (now (rows .entry)) (now (lambda .entry)) (now (delta .entry)) (now (table .entry)) level) (joinHeight n darts h (now (rows .entry)) (now (lambda .entry)) (now (delta .entry)) (now (table .entry)) level) ⌝ }
+    ensures { λ _. ⌜ now (lambda .exit) ≡ joinLambda n darts h (now (rows .entry)) (now (lambda .entry)) (now (delta .entry)) (now (table .entry)) level ⌝ }
+    ensures { λ _. ⌜ now (table .exit) ≡ joinLeaves n darts h (now (rows .entry)) (now (lambda .entry)) (now (delta .entry)) (now (table .entry)) level ⌝ }
+{
+    let answer = joining::join(
+        Dim(n),
+        darts,
+        Level(h),
+        rows,
+        lambda,
+        delta,
+        table,
+        Level(level),
+    );
+    lowered(h, answer)
 }

@@ -1,0 +1,47 @@
+-- `joining::join_row` meets its contract. The invariant: the darts passed have their joined Λ. The measure: the darts left. Assumes nothing.
+use Prim.Native.Nat.{_-_, _≤_, zero-le}
+use native.Mathlib.Omega.{arith}
+use lib.ListN.{length}
+use borrow.Author.Needs.{needs}
+use Rattle.maps.specs.Table.{each}
+use Rattle.maps.specs.Join.{joinΛ}
+use Rattle.checking.proofs.Rows.{RowTo, row-none, row-set, row-all}
+use Rattle.joining.proofs.join_row.Statement.{statement}
+use Rattle.joining.proofs.join_row.Tie as tie
+
+abbrev Inv-loop : tie.InvT-loop
+Inv-loop level lambda joined₀ d₀ d-end joined d = (d ≤ length lambda) × RowTo (joinΛ (level .0) (each lambda)) d joined₀ joined
+
+abbrev μ-loop : tie.MeasureT-loop
+μ-loop level lambda joined₀ d₀ d-end joined d = d-end - d
+
+loop-holds : tie.Need-loop-holds Inv-loop μ-loop
+loop-holds c = (zero-le, row-none _ _)
+
+loop-again : tie.Need-loop-again Inv-loop μ-loop
+loop-again c =
+    let l = c .before .before .before .loop in
+    let long = c .before .before .before .before .before .before .pre in
+    (omega arith, row-set (l .inv .1) (omega (arith, long)) (c .lambda-joined .result .0) (c .lambda-joined .ensures))
+
+same-length : tie.Need-same-length Inv-loop μ-loop
+same-length c = c .before .loop .inv .1 .long
+
+returns : tie.Need-returns Inv-loop μ-loop
+returns c = row-all (c .before .loop .inv .1) _ (c .before .before .before .before .pre) (c .loop-test .left)
+
+pub join-row-spec : {M : Type 1} → statement M
+join-row-spec =
+    tie.close
+    (tie.spec
+    Inv-loop
+    μ-loop
+    loop-holds
+    (λ c. search needs)
+    (λ c κs. search needs)
+    (λ c. search needs)
+    (λ c. search needs)
+    (λ c. search needs)
+    loop-again
+    same-length
+    returns)

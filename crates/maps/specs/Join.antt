@@ -1,0 +1,49 @@
+-- Two kernels taken as one, and kernels l and l+1 of a pyramid joined. Assumes nothing: these are definitions.
+use mathlib.Core.Path.{_≡_}
+use mathlib.Core.Bool.{true, cond}
+use mathlib.Core.List.{List}
+use Prim.Native.Nat.{ℕ, suc, _-_, _≤_}
+use lib.Dec.{leb, ltb}
+use Rattle.maps.specs.Verdict.{Verdict, refused, when, ifAccepted, _then_}
+use Rattle.maps.specs.Map.{Involutions}
+use Rattle.maps.specs.Mark.{isMark, between}
+use Rattle.maps.specs.Table.{entry, each, listed}
+use Rattle.maps.specs.Folded.{marks, level}
+use Rattle.maps.specs.Check.{checkKernel}
+use Rattle.maps.specs.CheckPyramid.{leftBehind, checkLent, tableAt, checkLeaves}
+
+-- Scope: 'Splitting a kernel'. The mark row of two kernels together: the first one's mark where it has one, else the second's.
+abbrev pub together : ℕ → (ℕ → ℕ) → (ℕ → ℕ) → ℕ → ℕ
+together n mark₁ mark₂ d = cond (isMark n (mark₁ d)) (mark₁ d) (mark₂ d)
+
+-- Scope: 'Kernels'. Whole cells: every row but the dimension leads from a dart marked to one of the same mark. (What 9 tests, and the first field of a Kernel.)
+abbrev pub WholeCells : Involutions → ℕ → (ℕ → Type 0) → (ℕ → ℕ) → Type 0
+WholeCells a n present mark = (d j : ℕ) → present d → isMark n (mark d) ≡ true → j ≤ n → (j ≡ between (mark d) .0 → ⊥) → mark (a j d) ≡ mark d
+
+-- Scope: 'Join kernels'. Kernels l and l+1 joined: Λ above l falls by 1.
+abbrev pub joinΛ : ℕ → (ℕ → ℕ) → ℕ → ℕ
+joinΛ l Λ d = cond (ltb l (Λ d)) (Λ d - 1) (Λ d)
+
+module _ (n N h : ℕ) (rows lambda delta table : List ℕ) (l : ℕ) where
+  -- Scope: 'Join kernels'. The joined kernel: the mark row of level l once h and Λ have fallen.
+  abbrev pub joinedRow : ℕ → ℕ
+  joinedRow = marks (h - 1) (joinΛ l (each lambda)) (each delta) l
+
+  -- Scope: 'Join kernels'. The check's tests, then 11: l+1 is not below h; then 9 and 10 of the joined kernel on level l.
+  unfoldable pub joinLent : Verdict
+  joinLent =
+      checkLent n N h rows lambda delta table
+      then (when (leb h (suc l)) (refused 11 l 0 0)
+      then checkKernel (level (entry N rows) n N (marks h (each lambda) (each delta)) l) n N joinedRow l)
+
+  -- Scope: 'Join kernels'. Accepted, the height falls by 1; refused, it is the height given.
+  unfoldable pub joinHeight : ℕ
+  joinHeight = ifAccepted joinLent (h - 1) h
+
+  -- Scope: 'Join kernels'. Accepted, Λ with the kernels joined; refused, as found.
+  unfoldable pub joinLambda : List ℕ
+  joinLambda = ifAccepted joinLent (listed (joinΛ l (each lambda)) N) lambda
+
+  -- Scope: 'Left behind'. Accepted, the table holds the top level; after 9 or 10 the level whose kernel failed; after any other number what the check leaves.
+  unfoldable pub joinLeaves : List ℕ
+  joinLeaves = leftBehind (tableAt n N h rows lambda delta table h) (tableAt n N h rows lambda delta table) (checkLeaves n N h rows lambda delta table) joinLent
