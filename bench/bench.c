@@ -21,22 +21,23 @@ struct implementation {
     __typeof__(&plain_export) export;
     __typeof__(&plain_regions) regions;
     __typeof__(&plain_join) join;
+    __typeof__(&plain_rebase) rebase;
     __typeof__(&plain_survivors) survivors;
     __typeof__(&plain_census) census;
 };
 
 static const struct implementation implementations[] = {
     {"library", zg_check, zg_add, zg_unfold, zg_read, zg_read_by_levels, zg_mark_cells, zg_take, zg_write,
-     zg_decimation, zg_import, zg_export, zg_regions, zg_join, zg_survivors, zg_census},
+     zg_decimation, zg_import, zg_export, zg_regions, zg_join, zg_rebase, zg_survivors, zg_census},
     {"c", plain_check, plain_add, plain_unfold, plain_read, plain_read_by_levels, plain_mark_cells, plain_take,
-     plain_write, plain_decimation, plain_import, plain_export, plain_regions, plain_join, plain_survivors, plain_census},
+     plain_write, plain_decimation, plain_import, plain_export, plain_regions, plain_join, plain_rebase, plain_survivors, plain_census},
     {"skipping", plain_check, plain_add, plain_unfold, plain_read, plain_read_by_levels_skipping, plain_mark_cells,
-     plain_take, plain_write, plain_decimation, plain_import, plain_export, plain_regions, plain_join, plain_survivors, plain_census},
+     plain_take, plain_write, plain_decimation, plain_import, plain_export, plain_regions, plain_join, plain_rebase, plain_survivors, plain_census},
 };
 
 /* All that is lent. It is written once before anything is counted, so no page is touched for the first time then. */
-static struct pyramid map, lower, raised, taken;
-static uint16_t table[ZG_MOST_ENTRIES], top[ZG_MOST_ENTRIES], names[ZG_MOST_DARTS];
+static struct pyramid map, lower, raised, taken, again;
+static uint16_t table[ZG_MOST_ENTRIES], top[ZG_MOST_ENTRIES], names[ZG_MOST_DARTS], old[ZG_MOST_DARTS];
 static uint8_t marks[ZG_MOST_DARTS], kernel[ZG_MOST_DARTS], record[ZG_MOST_RECORD];
 static uint8_t written[ZG_MOST_RECORD];
 static uint16_t edges[2048], vertices[2048], base[3 * 4096], partner_edges[2048], partner_vertices[2048];
@@ -151,6 +152,14 @@ static void run_join(const struct implementation *by)
                     .refusal.number;
 }
 
+/* With its check, from the level in the middle, the upper one of two. */
+static void run_rebase(const struct implementation *by)
+{
+    refusals += by->rebase(again.n, again.darts, again.h, again.rows, len, again.lambda, again.darts, again.delta,
+                           again.darts, table, len, (uint8_t)((again.h + 1) / 2), old, again.darts)
+                    .refusal.number;
+}
+
 /* Every level. */
 static void run_survivors(const struct implementation *by)
 {
@@ -172,6 +181,7 @@ struct job {
 static const struct job jobs[] = {
     {"check", run_check}, {"add", run_add},   {"unfold", run_unfold}, {"read", run_read}, {"bylevels", run_by_levels},
     {"mark", run_mark},   {"take", run_take}, {"write", run_write},   {"regions", run_regions},
+    {"rebase", run_rebase},
     {"survivors", run_survivors},
     {"decimation", run_decimation}, {"join", run_join},
     {"census", run_census},
@@ -241,6 +251,16 @@ static void set_up(const char *name)
     memset(written, 0, sizeof written);
     make_partner();
     memset(joined, 0, sizeof joined);
+    memset(old, 0, sizeof old);
+    again = map;
+}
+
+/* What a run has changed, as it was. */
+static void restore(void)
+{
+    memcpy(lower.lambda, lambda, sizeof lambda);
+    memcpy(lower.delta, delta, sizeof delta);
+    again = map;
 }
 
 static const struct implementation *implementation_named(const char *name)
@@ -270,16 +290,13 @@ int main(int argc, char **argv)
     set_up(argv[3]);
     /* The base reads of one run are found by running C once; they are 0 for jobs that have no count. */
     job->run(implementation_named("c"));
-    memcpy(lower.lambda, lambda, sizeof lambda);
-    memcpy(lower.delta, delta, sizeof delta);
+    restore();
     printf("%u %u %u %u\n", map.n, map.darts, map.h, reads);
     fflush(stdout);
     for (unsigned k = (unsigned)atoi(argv[4]); k > 0; k--) {
         job->run(by);
-        if (k > 1) {
-            memcpy(lower.lambda, lambda, sizeof lambda);
-            memcpy(lower.delta, delta, sizeof delta);
-        }
+        if (k > 1)
+            restore();
     }
     return refusals ? 3 : 0;
 }

@@ -1042,3 +1042,71 @@ zg_height plain_join(uint8_t n, uint16_t darts, uint8_t h, const uint16_t *rows,
     memcpy(lambda, joined, darts);
     return RESULT(zg_height, .height = (uint8_t)(h - 1));
 }
+
+/* ---------------------------------------------------------------- starting again */
+
+/* Kernels 0 to level-1, which were accepted, taken in the rows themselves. */
+static void climb_accepted(unsigned n, unsigned darts, unsigned level, const uint8_t *lambda, const uint8_t *delta,
+                           uint16_t *rows)
+{
+    uint16_t mark[ZG_MOST_DARTS], order[ZG_MOST_DARTS];
+    unsigned start[35];
+    struct way ways[WAYS];
+    join_marks(darts, lambda, delta, mark);
+    list_ways(n, darts, ways);
+    sort_by_kernel(darts, mark, order, start);
+    for (unsigned k = 0; k < level; k++)
+        remove_kernel(n, darts, rows, mark, order + start[k], start[k + 1] - start[k], ways);
+}
+
+/* New numbers first, for the rows; each entry is written at or before the place where it was read. */
+static void pack(unsigned n, unsigned darts, unsigned level, uint16_t *rows, uint8_t *lambda, uint8_t *delta,
+                 uint16_t *old)
+{
+    unsigned to = 0;
+    for (unsigned d = 0; d < darts; d++) {
+        old[d] = (uint16_t)to;
+        to += lambda[d] >= level;
+    }
+    uint16_t *next = rows;
+    for (unsigned i = 0; i <= n; i++)
+        for (unsigned d = 0; d < darts; d++)
+            if (lambda[d] >= level)
+                *next++ = old[rows[i * darts + d]];
+    memset(next, 255, sizeof *rows * (size_t)(rows + (n + 1) * darts - next));
+    to = 0;
+    for (unsigned d = 0; d < darts; d++)
+        if (lambda[d] >= level) {
+            lambda[to] = (uint8_t)(lambda[d] - level);
+            delta[to] = delta[d];
+            old[to] = (uint16_t)d;
+            to++;
+        }
+    memset(lambda + to, 255, darts - to);
+    memset(delta + to, 255, darts - to);
+    memset(old + to, 255, sizeof *old * (darts - to));
+}
+
+zg_base plain_rebase(uint8_t n, uint16_t darts, uint8_t h, uint16_t *rows, size_t rows_len, uint8_t *lambda,
+                     size_t lambda_len, uint8_t *delta, size_t delta_len, uint16_t *table, size_t table_len,
+                     uint8_t level, uint16_t *old, size_t old_len)
+{
+    unsigned bad = bad_size(n, darts, h);
+    if (bad)
+        return RESULT(zg_base, {bad}, darts, h);
+    if (old_len != darts)
+        return RESULT(zg_base, {4}, darts, h);
+    zg_refusal r = plain_check(n, darts, h, rows, rows_len, lambda, lambda_len, delta, delta_len, table, table_len);
+    if (r.number)
+        return (zg_base){r, darts, h};
+    if (level > h)
+        return RESULT(zg_base, {11, level}, darts, h);
+    unsigned kept = 0;
+    for (unsigned d = 0; d < darts; d++)
+        kept += lambda[d] >= level;
+    if (!kept)
+        return RESULT(zg_base, {2}, darts, h);
+    climb_accepted(n, darts, level, lambda, delta, rows);
+    pack(n, darts, level, rows, lambda, delta, old);
+    return (zg_base){{0}, (uint16_t)kept, (uint8_t)(h - level)};
+}

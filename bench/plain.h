@@ -28,6 +28,7 @@ __typeof__(zg_import) plain_import;
 __typeof__(zg_export) plain_export;
 __typeof__(zg_regions) plain_regions;
 __typeof__(zg_join) plain_join;
+__typeof__(zg_rebase) plain_rebase;
 
 /* As plain_read_by_levels, but passing at once over the levels on which a step finds its dart unchanged. */
 __typeof__(zg_read_by_levels) plain_read_by_levels_skipping;

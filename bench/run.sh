@@ -15,7 +15,7 @@ set -u
 source "$(dirname "$0")/../tests/tools.sh"
 BUILD=${BUILD:-target/bench} CPU=${CPU:-qemu64}
 maps=${MAPS:-"grid2 grid3 path32 grid4 strip voxels both1 both2 both3 both4 cycle vertex"}
-jobs=${JOBS:-"check add unfold read bylevels mark take write regions survivors decimation census import export join"}
+jobs=${JOBS:-"check add unfold read bylevels mark take write regions rebase survivors decimation census import export join"}
 
 need_compiler
 [ "$LIB" != c ] || need "$binutils" "$OBJCOPY" --version
@@ -55,12 +55,12 @@ count() {
     with=$(instructions "$@" 1) && without=$(instructions "$@" 0) && echo $((with - without))
 }
 
-# own IMPLEMENTATION JOB MAP: what a job takes itself; a taking ends, a writing, a decimation and a
-# census begin with a check, which is counted by itself.
+# own IMPLEMENTATION JOB MAP: what a job takes itself; a taking ends with a check, a writing, a decimation, a census and
+# starting again begin with one, which is counted by itself.
 own() {
     local all check=0
     all=$(count "$@") || return 1
-    case $2 in take | write | decimation | census) check=$(count "$1" check "$3") || return 1 ;; esac
+    case $2 in take | write | decimation | census | rebase) check=$(count "$1" check "$3") || return 1 ;; esac
     echo $((all - check))
 }
 
@@ -119,12 +119,12 @@ done
 echo
 echo "growth: instructions for each dart, library (C)"
 printf '%-8s %-8s %20s %20s %20s %20s\n' job map 512 1024 2048 4096
-for job in check unfold mark import export regions; do
+for job in check unfold mark import export regions rebase; do
     for map in grid2 path32 strip vertex; do
         [[ $job != *port || $map = grid2 ]] || continue # only their size is of the map
         printf '%-8s %-8s' "$job" "$map"
         for size in -512 -1024 -2048 ""; do
-            lib=$(count library "$job" "$map$size") && c=$(count c "$job" "$map$size") || exit 2
+            lib=$(own library "$job" "$map$size") && c=$(own c "$job" "$map$size") || exit 2
             read -r n darts h reads <"$BUILD/facts"
             awk -v a="$lib" -v c="$c" -v d="$darts" 'BEGIN { printf " %20s", sprintf("%.1f (%.1f)", a / d, c / d) }'
         done

@@ -16,7 +16,7 @@ extern "C" {
  * answers or is lent something else than before, MINOR when something is added, PATCH when neither is seen from here.
  */
 #define ZG_VERSION_MAJOR 6
-#define ZG_VERSION_MINOR 1
+#define ZG_VERSION_MINOR 2
 #define ZG_VERSION_PATCH 0
 #define ZG_VERSION (ZG_VERSION_MAJOR * 65536 + ZG_VERSION_MINOR * 256 + ZG_VERSION_PATCH)
 
@@ -52,6 +52,7 @@ extern "C" {
  *   bytes    a record, or a buffer for one
  *   edges    of a 2D combinatorial map of M darts, 0 to M-1: for each dart the other of its edge, or itself
  *   vertices for each of its darts the next around its vertex
+ *   old      for each dart of a new base its number in the old one: N entries
  *
  * Every length is in entries, not bytes, and must be exact (what zg_take writes to and the buffer of zg_write alone may
  * be longer). A pointer must be aligned as its type asks and good for the length that is given with it, also where that
@@ -68,8 +69,8 @@ extern "C" {
  * Every answer begins with its refusal. Its number is ZG_ACCEPTED (then level, involution and dart are 0 too), or says
  * why the call is refused. Each function tests its numbers in the order given with it; the first place found is the one
  * reported. A field that says nothing is 0; numbers 1 to 4, 20 and 22 have all three 0. Counts, and whatever else is
- * found, are 0 in a refusal (a height alone is as given). Unless said otherwise, a refusal leaves everything lent as it
- * was.
+ * found, are 0 in a refusal (a height, and the darts of zg_rebase, are as given). Unless said otherwise, a refusal
+ * leaves everything lent as it was.
  */
 
 enum zg_number {
@@ -154,6 +155,12 @@ typedef struct {
     uint8_t empty; /* 1: the next level has no dart, so there is no factor */
     double factor; /* a level's survivors by those of the next; 0 where empty is 1 */
 } zg_factor;
+
+typedef struct {
+    zg_refusal refusal;
+    uint16_t darts; /* N of the new base */
+    uint8_t h;      /* its height; both as given in a refusal */
+} zg_base;
 
 /* What a number says, in a phrase. */
 static inline const char *zg_refusal_text(uint16_t number)
@@ -385,6 +392,21 @@ zg_refusal zg_export(uint8_t n, uint16_t darts, const uint16_t *rows, size_t row
 zg_height zg_join(uint8_t n, uint16_t darts, uint8_t h, const uint16_t *rows, size_t rows_len,
                   uint8_t *lambda, size_t lambda_len, const uint8_t *delta, size_t delta_len,
                   uint16_t *table, size_t table_len, uint8_t level);
+
+/*
+ * Starts again from a level of an accepted pyramid: it becomes the base. Lent to change: rows, (n+1)N; lambda, N;
+ * delta, N. Lent to write: table, (n+1)N; old, N.
+ * Accepted: darts, the number M of darts on the level, and h, the height less the level. The level's darts are numbered
+ * from 0 in rising order. The front of rows, (n+1)M entries, has the level's rows of M entries, one after the other;
+ * the front of lambda, M entries, Lambda less the level; those of delta and old the darts' Delta and old numbers.
+ * Behind them stands 65,535 in rows and old, ZG_STAY in lambda and delta. table holds the explicit level h as it was,
+ * in the old numbers.
+ * Refused 1, 2, 3, 4, 5, 6, 7, 8, 9, 10 as zg_check, which also says what table then holds; then 11; then 2 for a level
+ * that has no dart, both with level h in table. All else lent is untouched in a refusal.
+ */
+zg_base zg_rebase(uint8_t n, uint16_t darts, uint8_t h, uint16_t *rows, size_t rows_len, uint8_t *lambda,
+                  size_t lambda_len, uint8_t *delta, size_t delta_len, uint16_t *table, size_t table_len,
+                  uint8_t level, uint16_t *old, size_t old_len);
 
 #ifdef __cplusplus
 }

@@ -83,6 +83,7 @@ static void read_item(struct call *c, char item)
     case 'P': c->edges = list(&c->edges_len, 2); break;
     case 'V': c->vertices = list(&c->vertices_len, 2); break;
     case 'N': c->names = list(&c->names_len, 2); break;
+    case 'O': c->old = list(&c->old_len, 2); break;
     }
 }
 
@@ -155,6 +156,7 @@ static void print_answer(const struct call *c)
         case 'P': print_u16(c->edges, c->edges_len); break;
         case 'V': print_u16(c->vertices, c->vertices_len); break;
         case 'N': print_u16(c->names, c->names_len); break;
+        case 'O': print_u16(c->old, c->old_len); break;
         }
     putchar('\n');
 }
@@ -173,6 +175,7 @@ static void free_call(struct call *c)
     free(c->cells);
     free(c->sums);
     free(c->names);
+    free(c->old);
 }
 
 int main(void)

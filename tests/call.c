@@ -18,18 +18,19 @@ const char *const job_names[JOBS] = {
     [BY_LEVELS] = "bylevels", [UNFOLD] = "unfold", [ROW] = "row", [SURVIVORS] = "survivors", [MARK] = "mark",
     [TAKE] = "take", [WRITE] = "write", [DECIMATION] = "decimation", [IMPORT] = "import", [EXPORT] = "export",
     [CENSUS] = "census", [REGIONS] = "regions", [JOIN] = "join",
-    [LEVELS] = "levels", [CENSUS_PROGRAM] = "census_program"
+    [REBASE] = "rebase", [LEVELS] = "levels", [CENSUS_PROGRAM] = "census_program"
 };
 const char *const case_forms[JOBS] = {
     [CHECK_BASE] = "nDR", [CHECK] = "nDhRLET", [ADD] = "nDhRLEMT", [MARKS] = "nDhLElM", [READ] = "nDhRLElid",
     [BY_LEVELS] = "nDhRLElid", [UNFOLD] = "nDhRLElT", [ROW] = "nDhRTli", [SURVIVORS] = "DhLlW", [MARK] = "nDTiM",
     [TAKE] = "BRLET", [WRITE] = "nDhRLETB", [DECIMATION] = "nDhRLETl", [IMPORT] = "DPVR", [EXPORT] = "nDRPV",
-    [CENSUS] = "nDhRLETCS", [REGIONS] = "nDhRLETlN", [JOIN] = "nDhRLETl", [LEVELS] = "B", [CENSUS_PROGRAM] = "B"
+    [CENSUS] = "nDhRLETCS", [REGIONS] = "nDhRLETlN", [JOIN] = "nDhRLETl",
+    [REBASE] = "nDhRLETlO", [LEVELS] = "B", [CENSUS_PROGRAM] = "B"
 };
 const char *const answer_forms[JOBS] = {
     [CHECK_BASE] = "", [CHECK] = "T", [ADD] = "LET", [MARKS] = "M", [READ] = "", [BY_LEVELS] = "", [UNFOLD] = "T",
     [ROW] = "", [SURVIVORS] = "W", [MARK] = "M", [TAKE] = "RLET", [WRITE] = "TB", [DECIMATION] = "FT", [IMPORT] = "R",
-    [EXPORT] = "PV", [CENSUS] = "TCS", [REGIONS] = "TN", [JOIN] = "LT", [LEVELS] = "", [CENSUS_PROGRAM] = ""
+    [EXPORT] = "PV", [CENSUS] = "TCS", [REGIONS] = "TN", [JOIN] = "LT", [REBASE] = "RLETO", [LEVELS] = "", [CENSUS_PROGRAM] = ""
 };
 
 enum place call_place = BETWEEN_CANARIES;
@@ -45,12 +46,12 @@ struct lent {
 };
 
 enum { IN_ROWS, IN_TABLE, IN_LAMBDA, IN_DELTA, IN_MARKS, IN_BYTES, IN_WORDS, IN_CELLS, IN_SUMS, IN_EDGES,
-       IN_VERTICES, IN_NAMES, LENTS };
+       IN_VERTICES, IN_NAMES, IN_OLD, LENTS };
 
 static struct lent lents[LENTS] = {
     {.name = "rows"}, {.name = "table"}, {.name = "lambda"}, {.name = "delta"},
     {.name = "marks"}, {.name = "bytes"}, {.name = "words"}, {.name = "cells"},
-    {.name = "sums"}, {.name = "edges"}, {.name = "vertices"}, {.name = "names"},
+    {.name = "sums"}, {.name = "edges"}, {.name = "vertices"}, {.name = "names"}, {.name = "old"},
 };
 
 static void fail(const struct call *c, const char *what, const char *name)
@@ -127,6 +128,7 @@ static uint16_t *vertices_out(const struct call *c)
 {
     return lend(IN_VERTICES, c->vertices, c->vertices_len, 2, false);
 }
+static uint16_t *old_out(const struct call *c) { return lend(IN_OLD, c->old, c->old_len, 2, false); }
 
 static bool filled(const unsigned char *guard)
 {
@@ -291,6 +293,16 @@ static void call_write(struct call *c)
     take_found(c, 1, r.length, 0, 0);
 }
 
+static void call_rebase(struct call *c)
+{
+    uint16_t *rows = rows_out(c), *table = table_out(c), *old = old_out(c);
+    uint8_t *lambda = lambda_out(c), *delta = delta_out(c);
+    zg_base r = zg_rebase((uint8_t)c->n, (uint16_t)c->darts, (uint8_t)c->h, rows, c->rows_len, lambda, c->lambda_len,
+                          delta, c->delta_len, table, c->table_len, (uint8_t)c->level, old, c->old_len);
+    take_refusal(c, r.refusal);
+    take_found(c, 2, r.darts, r.h, 0);
+}
+
 static void call_regions(struct call *c)
 {
     const uint16_t *rows = rows_in(c);
@@ -444,7 +456,7 @@ void call_job(struct call *c)
         [READ] = call_read, [BY_LEVELS] = call_by_levels, [UNFOLD] = call_unfold, [ROW] = call_row,
         [SURVIVORS] = call_survivors, [MARK] = call_mark, [TAKE] = call_take, [WRITE] = call_write,
         [DECIMATION] = call_decimation, [IMPORT] = call_import, [EXPORT] = call_export, [CENSUS] = call_census,
-        [REGIONS] = call_regions, [JOIN] = call_join, [LEVELS] = call_levels,
+        [REGIONS] = call_regions, [JOIN] = call_join, [REBASE] = call_rebase, [LEVELS] = call_levels,
         [CENSUS_PROGRAM] = call_census_program,
     };
     c->founds = 0;

@@ -23,7 +23,7 @@ using independent::Words;
 struct Case {
     job what = CHECK_BASE;
     unsigned n = 0, darts = 0, h = 0, level = 0, involution = 0, dart = 0;
-    Entries rows, table, cells, edges, vertices, names;
+    Entries rows, table, cells, edges, vertices, names, old;
     Bytes lambda, delta, marks, bytes;
     Words words;
     Sums sums;
@@ -33,7 +33,7 @@ inline bool same_lent(const Case& x, const Case& y)
 {
     return x.rows == y.rows && x.table == y.table && x.lambda == y.lambda && x.delta == y.delta &&
            x.marks == y.marks && x.bytes == y.bytes && x.words == y.words && x.cells == y.cells && x.sums == y.sums && x.edges == y.edges &&
-           x.vertices == y.vertices && x.names == y.names;
+           x.vertices == y.vertices && x.names == y.names && x.old == y.old;
 }
 
 struct Answer {
@@ -97,6 +97,7 @@ inline void read_item(std::istream& in, Case& c, char item)
     case 'P': read_list(in, c.edges); break;
     case 'V': read_list(in, c.vertices); break;
     case 'N': read_list(in, c.names); break;
+    case 'O': read_list(in, c.old); break;
     }
 }
 
@@ -121,6 +122,7 @@ inline void write_item(std::ostream& out, const Case& c, char item)
     case 'P': write_list(out, c.edges); break;
     case 'V': write_list(out, c.vertices); break;
     case 'N': write_list(out, c.names); break;
+    case 'O': write_list(out, c.old); break;
     }
 }
 
@@ -220,6 +222,11 @@ inline void answer_or_throw(Case& c, Answer& a)
     case EXPORT: by::export_map(c.n, c.darts, c.rows, c.edges, c.vertices); break;
     case REGIONS: by::regions(c.n, c.darts, c.h, c.rows, c.lambda, c.delta, c.table, c.level, c.names); break;
     case JOIN: found(a, by::join(c.n, c.darts, c.h, c.rows, c.lambda, c.delta, c.table, c.level)); break;
+    case REBASE: {
+        const auto r = by::rebase(c.n, c.darts, c.h, c.rows, c.lambda, c.delta, c.table, c.level, c.old);
+        found(a, r.darts, r.h);
+        break;
+    }
     case LEVELS: a.text = by::levels(c.bytes); break;
     case CENSUS: by::census(c.n, c.darts, c.h, c.rows, c.lambda, c.delta, c.table, c.cells, c.sums); break;
     case CENSUS_PROGRAM: a.text = by::census_program(c.bytes); break;
@@ -229,11 +236,13 @@ inline void answer_or_throw(Case& c, Answer& a)
 
 inline Answer answer_independently(Case& c)
 {
-    static const unsigned founds[JOBS] = {0, 0, 1, 0, 3, 2, 2, 3, 1, 0, 3, 1, 1, 0, 0, 0, 0, 1, 0, 0};
+    static const unsigned founds[JOBS] = {0, 0, 1, 0, 3, 2, 2, 3, 1, 0, 3, 1, 1, 0, 0, 0, 0, 1, 2, 0, 0};
     Answer a;
     a.founds = founds[c.what];
     if (c.what == ADD || c.what == JOIN)
         found(a, c.h); // the height as given, if refused
+    if (c.what == REBASE)
+        found(a, c.darts, c.h); // both as given, if refused
     try {
         answer_or_throw(c, a);
     } catch (const Refusal& r) {
@@ -279,6 +288,8 @@ inline Answer answer_by_library(Case& c)
     k.vertices_len = c.vertices.size();
     k.names = c.names.data();
     k.names_len = c.names.size();
+    k.old = c.old.data();
+    k.old_len = c.old.size();
     call_job(&k);
     Answer a;
     if (c.what != LEVELS && c.what != CENSUS_PROGRAM)

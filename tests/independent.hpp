@@ -6,6 +6,7 @@
 #include <cassert>
 #include <cstddef>
 #include <cstdint>
+#include <map>
 #include <numeric>
 #include <set>
 #include <string>
@@ -896,6 +897,56 @@ inline unsigned join(unsigned n, unsigned darts, unsigned h, const Entries& rows
         one = std::uint8_t(one - (one > level));
     return h - 1;
 }
+
+// ---------------------------------------------------------------- starting again
+
+struct Base {
+    unsigned darts, h;
+};
+
+// Makes level the base. Every list is made anew, with the values of the darts kept in front and the filler behind.
+inline Base rebase(unsigned n, unsigned darts, unsigned h, Entries& rows, Bytes& lambda, Bytes& delta, Entries& table,
+                   unsigned level, Entries& old)
+{
+    demand_dimension(n);
+    demand_darts(darts);
+    demand_height(h);
+    demand_length(old.size(), darts);
+    check(n, darts, h, rows, lambda, delta, table);
+    demand(level <= h, 11, level);
+    std::vector<unsigned> kept;
+    std::map<unsigned, unsigned> number;
+    for (unsigned d = 0; d < darts; d++)
+        if (lambda[d] >= level) {
+            number[d] = unsigned(kept.size());
+            kept.push_back(d);
+        }
+    demand(!kept.empty(), 2);
+    Map base(n, darts, rows);
+    for (unsigned k = 0; k < level; k++)
+        base = reduce(base, kernel_of(lambda, delta, k));
+    Entries new_rows, new_old;
+    Bytes new_lambda, new_delta;
+    for (unsigned i = 0; i <= n; i++)
+        for (const unsigned d : kept)
+            new_rows.push_back(std::uint16_t(number.at(base.a[i][d])));
+    for (const unsigned d : kept) {
+        new_lambda.push_back(std::uint8_t(lambda[d] - level));
+        new_delta.push_back(delta[d]);
+        new_old.push_back(std::uint16_t(d));
+    }
+    new_rows.resize(rows.size(), 65535);
+    new_lambda.resize(darts, stay);
+    new_delta.resize(darts, stay);
+    new_old.resize(darts, 65535);
+    rows = new_rows;
+    lambda = new_lambda;
+    delta = new_delta;
+    old = new_old;
+    return {unsigned(kept.size()), h - level};
+}
+
+// ---------------------------------------------------------------- the program
 
 // What the program levels prints, its lines joined by " / ".
 inline std::string levels(const Bytes& bytes)

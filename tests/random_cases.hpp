@@ -245,6 +245,7 @@ inline void fit_lengths(Case& c)
         case 'E': c.delta.resize(c.darts); break;
         case 'M': c.marks.resize(c.darts); break;
         case 'N': c.names.resize(c.darts); break;
+        case 'O': c.old.resize(c.darts); break;
         }
 }
 
@@ -292,6 +293,7 @@ inline void damage_item(Random& r, Case& c, char item)
     case 'P': damage_partner(r, c, c.edges); break;
     case 'V': damage_partner(r, c, c.vertices); break;
     case 'N': change_length(r, c.names); break;
+    case 'O': change_length(r, c.old); break;
     }
 }
 
@@ -454,6 +456,7 @@ inline void lend_pyramid(Random& r, Case& c, const Pyramid& source)
     c.cells = junk<Entries>(r, 165);
     c.sums = junk<Sums>(r, 33);
     c.names = junk<Entries>(r, p.darts);
+    c.old = junk<Entries>(r, p.darts);
 }
 
 inline void lend_level(Random& r, Case& c, const Pyramid& source)
@@ -560,6 +563,8 @@ inline void drop_the_rest(Case& c)
         c.vertices.clear();
     if (!takes('N'))
         c.names.clear();
+    if (!takes('O'))
+        c.old.clear();
 }
 
 inline Case random_case(Random& r, const Pyramid& source)

@@ -72,7 +72,7 @@ library() {
     if [ "$LIB" = c ]; then
         local job rename=(--redefine-sym plain_read_by_levels_skipping=zg_skipping)
         for job in version check_base check add marks_of read read_by_levels unfold row survivors mark_cells take \
-            write decimation census import export regions join; do
+            write decimation census import export regions join rebase; do
             rename+=(--redefine-sym "plain_$job=zg_$job")
         done
         "$CC" "${cflags[@]}" -O3 -c bench/plain.c -o "$1/standin.o" || exit 2

@@ -127,6 +127,13 @@ pub enum Factor {
     Empty,
 }
 
+/// The size of a new base.
+#[derive(Clone, Copy, Debug, PartialEq, Eq)]
+pub struct Base {
+    pub darts: u16,
+    pub h: Level,
+}
+
 impl raw::ZgRefusal {
     pub(crate) fn accepted(self) -> Result<(), Refusal> {
         match self.number {
@@ -154,4 +161,14 @@ macro_rules! accepted {
     };
 }
 
-accepted!(ZgReading, ZgLink, ZgUnfolding, ZgCount, ZgHeight, ZgPart, ZgRecord, ZgWritten, ZgFactor);
+accepted!(
+    ZgReading,
+    ZgLink,
+    ZgUnfolding,
+    ZgCount,
+    ZgHeight,
+    ZgPart,
+    ZgRecord,
+    ZgWritten, ZgFactor,
+    ZgBase
+);

@@ -41,7 +41,7 @@ pub mod raw;
 #[cfg(feature = "regions")]
 pub mod regions;
 
-pub use answers::{Dimension, Factor, Header, Level, Link, Reading, Refusal, Unfolding};
+pub use answers::{Base, Dimension, Factor, Header, Level, Link, Reading, Refusal, Unfolding};
 pub use owned::PyramidBuf;
 pub use pyramid::Pyramid;
 
@@ -153,6 +153,46 @@ pub fn join(
         )
     };
     answer.accepted().map(|r| Level(r.height))
+}
+
+/// Starts again from a level: it becomes the base, its darts numbered from 0 in rising order. The new rows, Λ and Δ stand
+/// at the front of what is lent, their old numbers at that of `old`; behind them stands 65,535, and 255 in Λ and Δ. The
+/// table is left as [`Pyramid::check`] leaves it.
+#[allow(clippy::too_many_arguments)]
+pub fn rebase(
+    n: Dimension,
+    darts: u16,
+    h: Level,
+    rows: &mut [u16],
+    lambda: &mut [u8],
+    delta: &mut [u8],
+    table: &mut [u16],
+    level: Level,
+    old: &mut [u16],
+) -> Result<Base, Refusal> {
+    // Safety: every pointer comes from an exclusive slice with its own length.
+    let answer = unsafe {
+        raw::zg_rebase(
+            n.0,
+            darts,
+            h.0,
+            rows.as_mut_ptr(),
+            rows.len(),
+            lambda.as_mut_ptr(),
+            lambda.len(),
+            delta.as_mut_ptr(),
+            delta.len(),
+            table.as_mut_ptr(),
+            table.len(),
+            level.0,
+            old.as_mut_ptr(),
+            old.len(),
+        )
+    };
+    answer.accepted().map(|r| Base {
+        darts: r.darts,
+        h: Level(r.h),
+    })
 }
 
 /// Reads the mark row of a level back: Δ where Λ is that level, else [`STAY`]; for level h [`STAY`] throughout.

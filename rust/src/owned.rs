@@ -1,6 +1,6 @@
 //! A folded pyramid that owns its tables.
 use crate::answers::{Dimension, Level, Refusal};
-use crate::{add, check_base, join, take, Pyramid, MOST_DARTS, MOST_ENTRIES};
+use crate::{add, check_base, join, rebase, take, Pyramid, MOST_DARTS, MOST_ENTRIES};
 
 /// A pyramid in folded form with tables of its own. It begins as a base or as a record, and grows level by level;
 /// [`PyramidBuf::lend`] lends it to every other job.
@@ -75,6 +75,28 @@ impl PyramidBuf {
         } = self;
         *h = join(*n, *darts, *h, rows, lambda, delta, table, level)?;
         Ok(*h)
+    }
+
+    /// Starts again from a level, which becomes the base: the old numbers of its darts. The table, of
+    /// [`PyramidBuf::entries`] entries, is left as [`Pyramid::check`] leaves it, in the old numbers.
+    pub fn rebase(&mut self, level: Level, table: &mut [u16]) -> Result<Vec<u16>, Refusal> {
+        let mut old = vec![0; usize::from(self.darts)];
+        let PyramidBuf {
+            n,
+            darts,
+            h,
+            rows,
+            lambda,
+            delta,
+        } = self;
+        let base = rebase(*n, *darts, *h, rows, lambda, delta, table, level, &mut old)?;
+        let kept = usize::from(base.darts);
+        (*darts, *h) = (base.darts, base.h);
+        rows.truncate((usize::from(n.0) + 1) * kept);
+        lambda.truncate(kept);
+        delta.truncate(kept);
+        old.truncate(kept);
+        Ok(old)
     }
 
     /// How many entries its rows have, and every table of one of its levels.

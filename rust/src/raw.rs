@@ -43,6 +43,8 @@ answers! {
     ZgWritten { length: u32 }
     /// `zg_factor`: empty 1: the next level has no dart.
     ZgFactor { empty: u8, factor: f64 }
+    /// `zg_base`: of the new base; as given in a refusal.
+    ZgBase { darts: u16, h: u8 }
 }
 
 extern "C" {
@@ -267,4 +269,21 @@ extern "C" {
         table_len: usize,
         level: u8,
     ) -> ZgHeight;
+
+    pub fn zg_rebase(
+        n: u8,
+        darts: u16,
+        h: u8,
+        rows: *mut u16,
+        rows_len: usize,
+        lambda: *mut u8,
+        lambda_len: usize,
+        delta: *mut u8,
+        delta_len: usize,
+        table: *mut u16,
+        table_len: usize,
+        level: u8,
+        old: *mut u16,
+        old_len: usize,
+    ) -> ZgBase;
 }

@@ -1,7 +1,8 @@
 //! The structs have the sizes, alignments and offsets that gcc gives those of include/zompelgors.h on x86-64.
 use std::mem::{align_of, size_of};
 use zompelgors::raw::{
-    ZgCount, ZgFactor, ZgHeight, ZgLink, ZgPart, ZgReading, ZgRecord, ZgRefusal, ZgUnfolding,
+    ZgBase, ZgCount, ZgFactor, ZgHeight, ZgLink, ZgPart, ZgReading, ZgRecord, ZgRefusal, ZgUnfolding,
+    ZgWritten,
 };
 
 fn layout<T>() -> (usize, usize) {
@@ -19,6 +20,8 @@ fn sizes_and_alignments() {
     assert_eq!(layout::<ZgPart>(), (14, 2));
     assert_eq!(layout::<ZgRecord>(), (12, 2));
     assert_eq!(layout::<ZgFactor>(), (24, 8));
+    assert_eq!(layout::<ZgWritten>(), (12, 4));
+    assert_eq!(layout::<ZgBase>(), (12, 2));
 }
 
 macro_rules! offset {
@@ -48,6 +51,9 @@ fn offsets() {
     assert_eq!(offset!(ZgRecord, darts), 10);
     assert_eq!(offset!(ZgFactor, empty), 8);
     assert_eq!(offset!(ZgFactor, factor), 16);
+    assert_eq!(offset!(ZgWritten, length), 8);
+    assert_eq!(offset!(ZgBase, darts), 8);
+    assert_eq!(offset!(ZgBase, h), 10);
 }
 
 #[test]
@@ -60,4 +66,6 @@ fn every_answer_begins_with_its_refusal() {
     assert_eq!(offset!(ZgPart, refusal), 0);
     assert_eq!(offset!(ZgRecord, refusal), 0);
     assert_eq!(offset!(ZgFactor, refusal), 0);
+    assert_eq!(offset!(ZgWritten, refusal), 0);
+    assert_eq!(offset!(ZgBase, refusal), 0);
 }

@@ -171,7 +171,10 @@ fn star_written() {
     let (mut table, mut bytes) = ([0; 36], [9; 130]);
     assert_eq!(pyramid.lend().write(&mut table, &mut bytes), Ok(118));
     assert_eq!((&bytes[..118], &bytes[118..]), (&whole[..], &[9; 12][..]));
-    let refusal = pyramid.lend().write(&mut table, &mut bytes[..117]).unwrap_err();
+    let refusal = pyramid
+        .lend()
+        .write(&mut table, &mut bytes[..117])
+        .unwrap_err();
     assert_eq!(refusal.number, 4);
 }
 

@@ -295,6 +295,29 @@ fn star_levels() {
 }
 
 #[test]
+fn star_started_again() {
+    let mut star = star();
+    let refusal = star.pyramid.rebase(Level(3), &mut star.table).unwrap_err();
+    assert_eq!(refusal, refused(11, 3, 0, 0));
+    let old = star.pyramid.rebase(Level(1), &mut star.table);
+    assert_eq!(old, Ok(vec![0, 1, 4, 5, 6, 7, 10, 11]));
+    let again = star.lend();
+    assert_eq!((again.darts, again.h), (8, Level(1)));
+    assert_eq!(
+        again.rows,
+        [
+            4, 5, 6, 7, 0, 1, 2, 3, //
+            3, 2, 1, 0, 5, 4, 7, 6, //
+            1, 0, 3, 2, 5, 4, 7, 6,
+        ]
+    );
+    assert_eq!(again.lambda, [0, 0, 0, 0, 1, 1, 1, 1]);
+    assert_eq!(again.delta, [0, 0, 0, 0, 2, 2, 2, 2]);
+    assert_eq!(star.read(1, 0, 5), link(6, 3, 1));
+    assert_eq!(star.unfolding(1), unfolding(20, 1));
+}
+
+#[test]
 fn star_marks_read_back() {
     let star = star();
     let mut marks = [0; 12];

@@ -99,6 +99,14 @@ module _ (n N h : ℕ) (rows lambda delta table : List ℕ) where
   unfolding checkLent checkPyramid
   parts = simp then-two
 
+  -- an accepted check has passed them all
+  pub check-passed : checkLent n N h rows lambda delta table ≡ accepted → Lent n N h rows lambda delta table × Base n N h rows lambda delta × (K ≡ accepted)
+  check-passed e =
+      let s = then-accepted S (M then K) (sym parts ∙ e) in
+      let t = then-accepted M K (s .1) in
+      let p = check-facts (s .0) in
+      (p, based p (t .0), t .1)
+
   abbrev Answers : Verdict → List ℕ → Type 0
   Answers v after = (v ≡ checkLent n N h rows lambda delta table) × (after ≡ checkLeaves n N h rows lambda delta table)
 

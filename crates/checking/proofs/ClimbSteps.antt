@@ -86,7 +86,7 @@ module _ {n N h : ℕ} {rows lambda delta table : List ℕ} {l : ℕ} (c : Climb
         }
 
     -- the kernel's check on the table is its check on the level
-    kernel-is : checkKernel (entry N table) n N row l ≡ kernelAt (entry N rows) n N h (each lambda) (each delta) l
+    pub kernel-is : checkKernel (entry N table) n N row l ≡ kernelAt (entry N rows) n N h (each lambda) (each delta) l
     unfolding kernelAt
     kernel-is =
         let b = c .base in

@@ -1,6 +1,6 @@
 pub mod ClimbVerdicts
-mod ClimbSteps
-mod ClimbCheck
+pub mod ClimbSteps
+pub mod ClimbCheck
 pub mod Rows
 mod AddKernels
 mod AddCheck

@@ -34,22 +34,22 @@ module _ (a : Involutions) (dim via : ℕ → ℕ) (less more : ℕ → Bool) (s
       rw k (front a dim via more (p + suc q) t d s f e₁ refl (sub e₁ (x .0)) (x .1) (join p q (turn a dim via less e₁ t) e₁ u e s f (x .2) i c r))
 
 -- b is what is left of a when the darts of `less` are without; then those of `next` are taken without of b. A walk over b, each of whose steps is
--- a walk over a, is a walk over a. (`more` is the two together.)
+-- a walk over a, is a walk over a that passes no fewer darts. (`more` is the two together.)
 module _ (a b : Involutions) (dim via : ℕ → ℕ) (less next more : ℕ → Bool) (n : ℕ) (present : ℕ → Type 0)
     (g : Ground b dim via next n present)
     (sub : (d : ℕ) → less d ≡ true → more d ≡ true) (sub′ : (d : ℕ) → next d ≡ true → more d ≡ true) (rest : (d : ℕ) → present d → next d ≡ false → more d ≡ false)
     (below : (t d : ℕ) → t ≤ n → present d → (p : ℕ) × Run a dim via less p t d t (b t d)) where
-  pub string : (q t d u e : ℕ) → t ≤ n → present d → Run b dim via next q t d u e → (p : ℕ) × Run a dim via more p t d u e
+  pub string : (q t d u e : ℕ) → t ≤ n → present d → Run b dim via next q t d u e → (p : ℕ) × (q ≤ p) × Run a dim via more p t d u e
   string zero t d u e lt hd r =
       let w = below t d lt hd in
       let x : Reaches a dim via more (w .0) t d t (b t d) = widen a dim via less more sub (w .0) t d t (b t d) (w .1 .0) in
-      (w .0, rw (r .0 .0, r .0 .1) (x, rest (b t d) (g .inside t d lt hd) (ap next (sym (r .0 .1)) ∙ r .1)))
+      (w .0, omega arith, rw (r .0 .0, r .0 .1) (x, rest (b t d) (g .inside t d lt hd) (ap next (sym (r .0 .1)) ∙ r .1)))
   string (suc q) t d u e lt hd r =
       let w = below t d lt hd in
       let e₁ = b t d in
       let h₁ : present e₁ = g .inside t d lt hd in
       let v = string q (turn b dim via next e₁ t) e₁ u e (turn-le b dim via next n present g e₁ t h₁ (r .0 .0) (r .0 .1)) h₁ (r .0 .2, r .1) in
-      (w .0 + suc (v .0), join a dim via less more sub (w .0) (v .0) t d t e₁ u e (w .1 .0) (sub′ e₁ (r .0 .0)) (r .0 .1) (v .1))
+      (w .0 + suc (v .0), omega (arith, v .1), join a dim via less more sub (w .0) (v .0) t d t e₁ u e (w .1 .0) (sub′ e₁ (r .0 .0)) (r .0 .1) (v .2))
 
 -- the rows between which a walk passes dart d
 abbrev pub low : (ℕ → ℕ) → ℕ → ℕ
@@ -181,9 +181,10 @@ module _ (a : Involutions) (n N h : ℕ) (Λ Δ : ℕ → ℕ) (y : Pyramid a n 
       let x = wider a n N h Λ Δ (y .dimension) l d o in
       let w = level-led l k t d lt o in
       let g = ground (Level l) n (On N Λ l) v (low Δ) (high Δ) (kernel l) (level-passing l k) in
-      rw (level-suc a n N h Λ Δ (y .dimension) l)
-      (string a (Level l) (low Δ) (high Δ) (gone Λ l) (kernel l) (gone Λ (suc l)) n (On N Λ l) g (gone-suc l) (gone-taken l) (λ e z q. not-gone (suc l) e (narrow a n N h Λ Δ (y .dimension) (y .allowed) l k e z q)) below
-      (w .passes) t d t (without (Level l) (low Δ) (high Δ) (kernel l) N t d) lt (x .0) (w .run))
+      let s =
+      string a (Level l) (low Δ) (high Δ) (gone Λ l) (kernel l) (gone Λ (suc l)) n (On N Λ l) g (gone-suc l) (gone-taken l) (λ e z q. not-gone (suc l) e (narrow a n N h Λ Δ (y .dimension) (y .allowed) l k e z q)) below
+      (w .passes) t d t (without (Level l) (low Δ) (high Δ) (kernel l) N t d) lt (x .0) (w .run) in
+      rw (level-suc a n N h Λ Δ (y .dimension) l) (s .0, s .2)
 
   pub course : (l : ℕ) → l ≤ h → Course l
   unfolding level

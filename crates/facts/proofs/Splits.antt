@@ -58,7 +58,7 @@ module _ (a : Involutions) (n : ℕ) (present : ℕ → Type 0) (m : Valid a n p
         let r = string a A dim via first second (either first second) n (Left present first) g (either-first first second) (either-second first second) (λ x z q. neither first second x (z .1) q)
         (λ t x lt z. let v = led a n present m dim via first k₁ N bound t x lt (z .0) (z .1) in (v .passes, v .run))
         (w .passes) i d i (without A dim via second N i d) li (p, q₁) (w .run) in
-        sym (without-run a n present m dim via (either first second) k₁₂ N bound i d (r .0) i (without A dim via second N i d) li p (neither first second d q₁ q₂) (r .1))
+        sym (without-run a n present m dim via (either first second) k₁₂ N bound i d (r .0) i (without A dim via second N i d) li p (neither first second d q₁ q₂) (r .2))
 
   -- The second kernel is whole in the map itself, and shares no dart with the first: then its darts keep all their neighbours but one when the first is taken out.
   module _ (disjoint : (d : ℕ) → present d → first d ≡ true → second d ≡ true → ⊥) (whole : Whole a n present dim via second) where

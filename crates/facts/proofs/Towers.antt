@@ -78,5 +78,7 @@ module _ (a : Involutions) (n N h : ℕ) (Λ dim via : ℕ → ℕ) (t : Tower a
       let v = tower-valid l (omega arith) in
       let x = on-below N Λ l d o in
       let w = led A n (On N Λ l) v dim via (inKernel Λ l) (t .kernel l k) N (λ e z. z .0) i d li (x .0) (x .1) in
+      let s =
       string a A dim via (gone Λ l) (inKernel Λ l) (gone Λ (suc l)) n (On N Λ l) (ground A n (On N Λ l) v dim via (inKernel Λ l) (t .kernel l k)) (gone-suc l) (gone-kernel l) (gone-not l) (tower-course l (omega arith))
-      (w .passes) i d i (without A dim via (inKernel Λ l) N i d) li (x .0) (w .run)
+      (w .passes) i d i (without A dim via (inKernel Λ l) N i d) li (x .0) (w .run) in
+      (s .0, s .2)

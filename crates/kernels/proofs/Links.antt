@@ -9,7 +9,7 @@ use lib.Dec.{ltb}
 use borrow.Author.Tests.{ltb-true, lt-ltb, le-ltb}
 use Rattle.maps.specs.Count.{one, count}
 use Rattle.maps.specs.Mark.{isMark}
-use Rattle.laws.proofs.Counting.{count-same, count-le}
+use Rattle.laws.proofs.Counting.{count-same, count-le, count-more}
 use Rattle.kernels.specs.Strings.{First, Along}
 use Rattle.kernels.specs.Ready.{firstOfLink, linksMade}
 
@@ -21,11 +21,6 @@ count-gap p m (suc k) h = rw (add-suc, h (m + k) (omega arith) (omega arith)) (o
 
 count-still : (p : ℕ → Bool) (m k : ℕ) → m ≤ k → ((x : ℕ) → m ≤ x → x < k → p x ≡ false) → count p k ≡ count p m
 count-still p m k l h = let e : m + (k - m) ≡ k = omega arith in sym (ap (count p) e) ∙ count-gap p m (k - m) (λ x f b. h x f (omega arith))
-
--- one number more
-count-more : (p : ℕ → Bool) (m : ℕ) → count p (m + 1) ≡ count p m + one (p m)
-unfolding count
-count-more p m = let e : m + 1 ≡ suc m = omega arith in rw e
 
 module _ (n N : ℕ) (mark : ℕ → ℕ) (before : List ℕ) where
   -- does dart x begin a link?

@@ -5,6 +5,7 @@ use mathlib.Core.Bool.{Bool, true, false, _&&_, not}
 use mathlib.Core.List.{List, [], _∷_, _++_}
 use Prim.Native.Nat.{ℕ, zero, suc, _+_, _-_, _*_, _≤_, _<_}
 use native.Mathlib.Nat.{add-zero, add-suc}
+use native.Mathlib.Numerals.{add-one}
 use native.Mathlib.Omega.{arith}
 use lib.ListN.{length, length-append}
 use lib.Dec.{eqb}
@@ -33,6 +34,11 @@ pub count-same : (p q : ℕ → Bool) (m : ℕ) → ((y : ℕ) → y < m → p y
 unfolding count
 count-same p q zero h = refl
 count-same p q (suc m) h = rw (count-same p q m (λ y l. h y (omega arith)), h m (omega arith))
+
+-- one number more
+pub count-more : (p : ℕ → Bool) (m : ℕ) → count p (m + 1) ≡ count p m + one (p m)
+unfolding count
+count-more p m = rw add-one
 
 pub count-minus : (p : ℕ → Bool) (x m : ℕ) → x < m → p x ≡ true → suc (count (minus p x) m) ≡ count p m
 unfolding count

@@ -35,4 +35,6 @@ pub mod Partner
 pub mod Regions
 pub mod Convert
 pub mod Join
+pub mod NewBase
+pub mod Rebase
 pub mod Accepted

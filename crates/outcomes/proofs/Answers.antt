@@ -40,6 +40,9 @@ use Rattle.shrinking.specs.declared.Factor.the-variants.{By, Empty, Refused as 
 use Rattle.joining.specs.Answers.{joinedOf, heightOf as lowerOf}
 use Rattle.joining.specs.declared.Joined.{Joined}
 use Rattle.joining.specs.declared.Joined.the-variants.{Lowered, Refused as NotJoined}
+use Rattle.rebasing.specs.Answers.{Outcome as Rebasing, rebasedOf}
+use Rattle.rebasing.specs.declared.Rebased.{Rebased}
+use Rattle.rebasing.specs.declared.Rebased.the-variants.{Base, Refused as NotRebased}
 
 abbrev level : ℕ → Level
 level l = record { 0 = l }
@@ -186,6 +189,14 @@ joinedFrom x = fromVerdict (Lowered (level (x .1))) NotJoined (x .0)
 pub joined-told : (h : ℕ) (j : Joined) → joinedFrom (valuesOfJoined h j) ≡ j
 joined-told h (Lowered new) = refl
 joined-told h (NotJoined r) = refusal-told (fromVerdict (Lowered (level h)) NotJoined) NotJoined (λ k l i d. refl) r
+
+-- the answer of starting again; N and h as given in a refusal
+abbrev pub rebasedFrom : Rebasing → Rebased
+rebasedFrom x = fromVerdict (Base (x .darts) (level (x .height))) NotRebased (x .verdict)
+
+pub rebased-told : (N h : ℕ) (x : Rebased) → rebasedFrom (rebasedOf N h x) ≡ x
+rebased-told N h (Base darts height) = refl
+rebased-told N h (NotRebased r) = refusal-told (λ v. rebasedFrom (record { verdict = v; darts = N; height = h })) NotRebased (λ k l i d. refl) r
 
 -- the four numbers of a refusal
 abbrev pub numbersFrom : Verdict → Numbers

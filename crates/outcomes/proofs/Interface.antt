@@ -24,7 +24,8 @@ use Rattle.zompelgors.proofs.zg_export.Reads as export-map
 use Rattle.zompelgors.specs.Flat.{refusalFor}
 use Rattle.zompelgors_regions.proofs.zg_regions.Reads as regions
 use Rattle.zompelgors.proofs.zg_join.Reads as join
-use Rattle.outcomes.proofs.One.{OneOutcome, one-outcome, nothing, three, same-three, four, same-four, pair, same-pair}
+use Rattle.zompelgors.proofs.zg_rebase.Reads as rebase
+use Rattle.outcomes.proofs.One.{OneOutcome, one-outcome, nothing, three, same-three, four, same-four, pair, same-pair, five, same-five}
 use Rattle.outcomes.proofs.Cells.{marking-same}
 use Rattle.outcomes.proofs.Partner.{import-same, export-same}
 use Rattle.outcomes.proofs.Regions.{naming-same}
@@ -104,3 +105,7 @@ zg-regions-one κs a r r′ s s′ c c′ =
 -- Λ and the table
 pub zg-join-one : (κs : Lfts 4) → OneOutcome (join.Learnt κs) (λ r. r) (λ s. pair (now (s .1 .1 .1 .1 .0)) (now (s .1 .1 .1 .1 .1 .1 .0)))
 zg-join-one κs = one-outcome _ _ _ (λ a r. r) (λ r. r) (λ a r. refl) _ _ (λ a r s c. (c .0, same-pair (c .1 .0) (c .1 .1)))
+
+-- rows, Λ, Δ, the table and the old numbers
+pub zg-rebase-one : (κs : Lfts 5) → OneOutcome (rebase.Learnt κs) (λ r. r) (λ s. five (now (s .1 .1 .1 .0)) (now (s .1 .1 .1 .1 .0)) (now (s .1 .1 .1 .1 .1 .0)) (now (s .1 .1 .1 .1 .1 .1 .0)) (now (s .1 .1 .1 .1 .1 .1 .1 .1 .0)))
+zg-rebase-one κs = one-outcome _ _ _ (λ a r. r) (λ r. r) (λ a r. refl) _ _ (λ a r s c. (c .0, same-five (c .1 .0) (c .1 .1 .0) (c .1 .1 .1 .0) (c .1 .1 .1 .1 .0) (c .1 .1 .1 .1 .1)))

@@ -9,6 +9,7 @@ use Rattle.questions.specs.Answers.{valueOf}
 use Rattle.records.specs.Answers.{takenOf}
 use Rattle.writing.specs.Answers.{writtenOf}
 use Rattle.shrinking.specs.Answers.{factorOf}
+use Rattle.rebasing.specs.Answers.{rebasedOf}
 use Rattle.answers.proofs.sizes.Reads as sizes
 use Rattle.answers.proofs.both.Reads as both
 use Rattle.answers.proofs.row_fits.Reads as row-fits
@@ -46,8 +47,9 @@ use Rattle.partner.proofs.export.Reads as export-map
 use Rattle.regions.proofs.name_regions.Reads as name-regions
 use Rattle.converting.proofs.convert.Reads as convert
 use Rattle.joining.proofs.join.Reads as join
+use Rattle.rebasing.proofs.rebase.Reads as rebase
 use Rattle.outcomes.proofs.One.{OneOutcome, one-outcome, nothing, three, same-three, four, same-four, five, same-five, pair, same-pair}
-use Rattle.outcomes.proofs.Answers.{checkFrom, check-told, readingFrom, reading-told, valuesOfLink, linkFrom, link-told, valuesOfTotal, totalFrom, total-told, valuesOfSurvivors, survivorsFrom, survivors-told, valuesOfAdded, addedFrom, added-told, takenFrom, taken-told, writtenFrom, written-told, factorFrom, factor-told, valuesOfJoined, joinedFrom, joined-told, numbersFrom, numbers-told}
+use Rattle.outcomes.proofs.Answers.{checkFrom, check-told, readingFrom, reading-told, valuesOfLink, linkFrom, link-told, valuesOfTotal, totalFrom, total-told, valuesOfSurvivors, survivorsFrom, survivors-told, valuesOfAdded, addedFrom, added-told, takenFrom, taken-told, writtenFrom, written-told, factorFrom, factor-told, valuesOfJoined, joinedFrom, joined-told, rebasedFrom, rebased-told, numbersFrom, numbers-told}
 use Rattle.outcomes.proofs.Cells.{marking-same}
 use Rattle.outcomes.proofs.Partner.{import-same, export-same}
 use Rattle.outcomes.proofs.Regions.{naming-same}
@@ -160,6 +162,10 @@ pub join-one : (κs : Lfts 4) → OneOutcome (join.Learnt κs) (λ r. r) (λ s. 
 join-one κs =
     one-outcome _ _ _ (λ a. valuesOfJoined (a .1 .1 .0 .0)) joinedFrom (λ a. joined-told (a .1 .1 .0 .0)) _ _ (λ a r s c.
     (ap₂ (λ v h. (v, h)) (c .0) (c .1 .0), same-pair (c .1 .1 .0) (c .1 .1 .1)))
+
+-- rows, Λ, Δ, the table and the old numbers
+pub rebase-one : (κs : Lfts 5) → OneOutcome (rebase.Learnt κs) (λ r. r) (λ s. five (now (s .1 .1 .1 .0)) (now (s .1 .1 .1 .1 .0)) (now (s .1 .1 .1 .1 .1 .0)) (now (s .1 .1 .1 .1 .1 .1 .0)) (now (s .1 .1 .1 .1 .1 .1 .1 .1 .0)))
+rebase-one κs = one-outcome _ _ _ (λ a. rebasedOf (a .1 .0) (a .1 .1 .0 .0)) rebasedFrom (λ a. rebased-told (a .1 .0) (a .1 .1 .0 .0)) _ _ (λ a r s c. (c .0, same-five (c .1 .0) (c .1 .1 .0) (c .1 .1 .1 .0) (c .1 .1 .1 .1 .0) (c .1 .1 .1 .1 .1)))
 
 -- what jobs share
 pub sizes-one : (κs : Lfts 0) → OneOutcome (sizes.Learnt κs) (λ r. r) nothing

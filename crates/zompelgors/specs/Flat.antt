@@ -1,4 +1,4 @@
--- The structs that the C interface returns, for each outcome: each begins with its refusal, which is 0 0 0 0 where accepted; all else is 0 in a refusal, but for a height. Assumes nothing: these are definitions.
+-- The structs that the C interface returns, for each outcome: each begins with its refusal, which is 0 0 0 0 where accepted; all else is 0 in a refusal, but for a height and the darts of a base. Assumes nothing: these are definitions.
 use mathlib.Core.Bool.{cond}
 use Prim.Native.Nat.{ℕ, _+_, _*_}
 use lib.Dec.{eqb}
@@ -7,6 +7,7 @@ use Rattle.maps.specs.Read.{Reading, found, none}
 use Rattle.records.specs.Answers.{Outcome}
 use Rattle.writing.specs.Answers.{Outcome as Writing}
 use Rattle.shrinking.specs.Answers.{Outcome as Shrinking}
+use Rattle.rebasing.specs.Answers.{Outcome as Rebasing}
 use Rattle.zompelgors.specs.declared.ZgRefusal.{ZgRefusal}
 use Rattle.zompelgors.specs.declared.ZgReading.{ZgReading}
 use Rattle.zompelgors.specs.declared.ZgLink.{ZgLink}
@@ -17,6 +18,7 @@ use Rattle.zompelgors.specs.declared.ZgPart.{ZgPart}
 use Rattle.zompelgors.specs.declared.ZgRecord.{ZgRecord}
 use Rattle.zompelgors.specs.declared.ZgWritten.{ZgWritten}
 use Rattle.zompelgors.specs.declared.ZgFactor.{ZgFactor}
+use Rattle.zompelgors.specs.declared.ZgBase.{ZgBase}
 
 -- a verdict
 abbrev pub refusalFor : Verdict → ZgRefusal
@@ -64,6 +66,10 @@ writtenFor o = record { refusal = refusalFor (o .verdict); length = o .bytes }
 -- a verdict with whether the next level has no dart, and a factor; both are 0 in a refusal
 abbrev pub factorFor : Shrinking → ZgFactor
 factorFor o = record { refusal = refusalFor (o .verdict); empty = o .empty; factor = o .factor }
+
+-- a verdict with the darts and the height of the new base, which in a refusal are those given
+abbrev pub baseFor : Rebasing → ZgBase
+baseFor o = record { refusal = refusalFor (o .verdict); darts = o .darts; h = o .height }
 
 -- a version in one number: a byte each for the two smaller parts
 abbrev pub versionFor : ℕ → ℕ → ℕ → ℕ

@@ -24,6 +24,7 @@ ghost use Rattle.maps.specs.Decimation.{decimationTable};
 ghost use Rattle.maps.specs.Census.{censusLent, censusTable, CensusPutLeaves};
 ghost use Rattle.maps.specs.Partner.{importLent, ImportLeaves, exportLent, Exports};
 ghost use Rattle.maps.specs.Join.{joinLent, joinHeight, joinLambda, joinLeaves};
+ghost use Rattle.maps.specs.Rebase.{rebaseRows, rebaseLambda, rebaseDelta, rebaseOld, rebaseTable};
 ghost use Rattle.answers.specs.Numbers.{refusalOf, verdictOf};
 ghost use Rattle.checking.specs.Answers.{addedOf, heightOf};
 ghost use Rattle.questions.specs.Answers.{valueOf};
@@ -34,7 +35,8 @@ ghost use Rattle.taking.specs.Answers.{taken};
 ghost use Rattle.writing.specs.Answers.{writtenOf, writing};
 ghost use Rattle.shrinking.specs.Answers.{factorOf, decimating};
 ghost use Rattle.joining.specs.Answers.{joinedOf, heightOf as lowerOf};
-ghost use Rattle.zompelgors.specs.Flat.{refusalFor, saidBy, readingFor, linkFor, countFor, unfoldingFor, heightFor, partFor, recordFor, writtenFor, factorFor, versionFor};
+ghost use Rattle.rebasing.specs.Answers.{rebasedOf, rebasing};
+ghost use Rattle.zompelgors.specs.Flat.{refusalFor, saidBy, readingFor, linkFor, countFor, unfoldingFor, heightFor, partFor, recordFor, writtenFor, factorFor, baseFor, versionFor};
 
 // The document's number and values; all 0 where accepted.
 #[repr(C)]
@@ -115,6 +117,14 @@ pub struct ZgFactor {
     pub refusal: ZgRefusal,
     pub empty: u8,
     pub factor: f64,
+}
+
+// The darts and the height of a new base; as given in a refusal.
+#[repr(C)]
+pub struct ZgBase {
+    pub refusal: ZgRefusal,
+    pub darts: u16,
+    pub h: u8,
 }
 
 // No refusal.
@@ -393,12 +403,32 @@ fn factor_as(answer: shrinking::Factor) -> ZgFactor
     }
 }
 
-// The version of this interface: 6.1.0.
+// The answer of starting again.
+fn based_as(darts: u16, h: u8, answer: rebasing::Rebased) -> ZgBase
+    ensures { λ r. ⌜ r ≡ baseFor (rebasedOf darts h answer) ⌝ }
+{
+    match answer {
+        rebasing::Rebased::Base(fewer, height) => {
+            let refusal = accepts();
+            ZgBase {
+                refusal,
+                darts: fewer,
+                h: height.0,
+            }
+        },
+        rebasing::Rebased::Refused(why) => {
+            let refusal = refused(why);
+            ZgBase { refusal, darts, h }
+        },
+    }
+}
+
+// The version of this interface: 6.2.0.
 #[no_mangle]
 pub extern "C" fn zg_version() -> u32
-    ensures { λ r. ⌜ r ≡ versionFor 6 1 0 ⌝ }
+    ensures { λ r. ⌜ r ≡ versionFor 6 2 0 ⌝ }
 {
-    393472
+    393728
 }
 
 // Checks a base.
@@ -752,4 +782,41 @@ pub extern "C" fn zg_join(
         Level(level),
     );
     lowered(h, answer)
+}
+
+// Starts again from a level of an accepted pyramid; the table is left as the check leaves it.
+#[no_mangle]
+pub extern "C" fn zg_rebase(
+    n: u8,
+    darts: u16,
+    h: u8,
+    rows: &mut [u16],
+    lambda: &mut [u8],
+    delta: &mut [u8],
+    table: &mut [u16],
+    level: u8,
+    old: &mut [u16],
+) -> ZgBase
+    ensures { λ r. ⌜ r ≡ baseFor (rebasing n darts h (now (rows .entry)) (now (lambda .entry)) (now (delta .entry)) (now (table .entry)) level (now (old .entry))) ⌝ }
+    ensures { λ _. ⌜ now (rows .exit) ≡ rebaseRows n darts h (now (rows .entry)) (now (lambda .entry)) (now (delta .entry)) (now (table .entry)) level (now (old .entry)) ⌝ }
+    ensures { λ _. ⌜ now (lambda .exit) ≡ rebaseLambda n darts h (now (rows .entry)) (now (lambda .entry)) (now (delta .entry)) (now (table .entry)) level (now (old .entry)) ⌝ }
+    ensures { λ _. ⌜ now (delta .exit) ≡ rebaseDelta n darts h (now (rows .entry)) (now (lambda .entry)) (now (delta .entry)) (now (table .entry)) level (now (old .entry)) ⌝ }
+    ensures { λ _. ⌜ now (table .exit) ≡ rebaseTable n darts h (now (rows .entry)) (now (lambda .entry)) (now (delta .entry)) (now (table .entry)) level (now (old .entry)) ⌝ }
+    ensures { λ _. ⌜ now (old .exit) ≡ rebaseOld n darts h (now (rows .entry)) (now (lambda .entry)) (now (delta .entry)) (now (table .entry)) level (now (old .entry)) ⌝ }
+{
+    based_as(
+        darts,
+        h,
+        rebasing::rebase(
+            Dim(n),
+            darts,
+            Level(h),
+            rows,
+            lambda,
+            delta,
+            table,
+            Level(level),
+            old,
+        ),
+    )
 }

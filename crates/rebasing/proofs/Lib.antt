@@ -1,0 +1,13 @@
+pub mod Numbering
+pub mod Renaming
+pub mod Renumbering
+pub mod FewerReads
+pub mod StartingAgain
+pub mod PackedAgain
+pub mod StarStartedAgain
+mod Tests
+mod Reached
+mod Packs
+mod Whole
+pub mod SinceAgain
+pub mod Twice

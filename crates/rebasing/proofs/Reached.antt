@@ -1,0 +1,28 @@
+-- Kernels of an accepted pyramid removed one after the other: each is ready, and its removal leaves the next level. Assumes nothing.
+use mathlib.Core.Path.{_≡_, sym, _∙_}
+use mathlib.Core.List.{List}
+use Prim.Native.Nat.{ℕ, _+_, _<_}
+use Rattle.maps.specs.Verdict.{accepted}
+use Rattle.maps.specs.Table.{entry, each}
+use Rattle.maps.specs.Check.{checkKernel, kernelAt, checkKernels}
+use Rattle.maps.specs.CheckBase.{present}
+use Rattle.laws.proofs.Verdicts.{scan-accepted}
+use Rattle.facts.proofs.Checks.{There, kernel-sound}
+use Rattle.kernels.specs.Strings.{kernelRow}
+use Rattle.kernels.specs.Ready.{Ready, removedFrom}
+use Rattle.checking.specs.Climb.{climbs}
+use Rattle.checking.proofs.ClimbSteps.{Climbed, climb-tested, climb-next, kernel-is}
+
+module _ {n N h : ℕ} {rows lambda delta table : List ℕ} {l : ℕ} (c : Climbed n N h rows lambda delta table l) (f : l < h) (all : climbs n N h rows lambda delta ≡ accepted) where
+  abbrev row : ℕ → ℕ
+  row = kernelRow lambda delta l
+
+  passed : accepted ≡ checkKernel (entry N table) n N row l
+  unfolding checkKernels
+  passed = sym (kernel-is c f ∙ scan-accepted h (kernelAt (entry N rows) n N h (each lambda) (each delta)) all l f)
+
+  pub kernel-ready : Ready n N row table
+  kernel-ready = let t = climb-tested c f in record { tested = t; kernel = kernel-sound (entry N table) n N row l (There (entry N table) n N (present N table)) (t .sound .valid) (λ d o. o .0) (sym passed) }
+
+  pub kernel-removed : {after : List ℕ} → after ≡ removedFrom n N row table → Climbed n N h rows lambda delta after (l + 1)
+  kernel-removed e = climb-next c f (rw (← passed) e) passed

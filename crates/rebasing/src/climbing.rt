@@ -1,0 +1,31 @@
+// The kernels below a level, removed in the rows themselves. The strings of the darts by kernel, 8,704 bytes, are all the local memory here.
+use answers::Dim;
+use answers::Level;
+ghost use mathlib.Core.Path.{_≡_};
+ghost use Prim.Native.Nat.{ℕ};
+ghost use Rattle.maps.specs.Table.{entry, each};
+ghost use Rattle.maps.specs.Folded.{levelTable};
+ghost use Rattle.rebasing.specs.Climbing.{Reached, HasLevel};
+
+// Kernels 0 to level−1, in rising order. They are accepted, so none is tested again.
+pub(crate) fn climb(
+    n: Dim,
+    darts: usize,
+    level: Level,
+    lambda: &[u8],
+    delta: &[u8],
+    rows: &mut [u16],
+)
+    requires { ⌜ HasLevel (n .0) darts (now rows) (now lambda) (now delta) (level .0) ⌝ }
+    ensures { λ _. ⌜ ((h : ℕ) → Reached (n .0) darts h (now (rows .entry)) (now (lambda .entry)) (now (delta .entry)) (level .0)
+        → now (rows .exit) ≡ levelTable (entry darts (now (rows .entry))) (n .0) darts h (each (now (lambda .entry))) (each (now (delta .entry))) (level .0)) ⌝ }
+{
+    let mut head = [65535u16; 256];
+    let mut next = [0u16; 4096];
+    kernels::link(darts, lambda, &mut head, &mut next);
+    let top = level.0;
+    for l in 0..top {
+        let first = head[l as usize];
+        kernels::remove(n, darts, Level(l), lambda, delta, &next, first, rows);
+    }
+}
