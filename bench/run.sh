@@ -76,11 +76,10 @@ line() {
     }'
 }
 
-# limit JOB MAP: the target, or what the document's form costs where that is more: an unfolding and a check of grid4 should
+# limit JOB MAP: the target, or what the document's form costs where that is more: an unfolding should
 # take 1.05 times as many instructions as C, a reading by levels 1.50 times on path32 and both1 too (docs/MEASURED.md).
 limit() {
     case $1/$2 in
-    check/grid4) echo 1.06 ;;
     check/* | add/*) echo 1.05 ;;
     unfold/*) echo 1.10 ;;
     bylevels/path32 | bylevels/both1) echo 1.70 ;;

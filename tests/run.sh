@@ -182,6 +182,17 @@ if can "example in C" "${for_c[@]}" &&
     built "example in C" "$CC" -std=c99 "${strict[@]}" -O2 examples/unfold.c "$LIB" -o "$BUILD/unfold"; then
     same "example in C" "$BUILD/unfold.txt" examples/unfold.stdout unfoldings "${run[@]}" "$BUILD/unfold"
 fi
+# days COMMAND..: a station's day with two records, and with one cut short.
+days() {
+    "$@" samples/star.record "$BUILD/star.record"
+    "$@" samples/pipe.record "$BUILD/pipe.record"
+    "$@" "$BUILD/cut.record" "$BUILD/none.record"
+    return 0
+}
+if can "a station's day in C" "${for_c[@]}" &&
+    built "a station's day in C" "$CC" -std=c99 "${strict[@]}" -O2 examples/station.c "$LIB" -o "$BUILD/station"; then
+    same "a station's day in C" "$BUILD/station.txt" examples/station.stdout days "${run[@]}" "$BUILD/station"
+fi
 if can "combinatorial map in C" "${for_c[@]}" &&
     built "combinatorial map in C" "$CC" -std=c99 "${strict[@]}" -O2 examples/partner.c "$LIB" -o "$BUILD/partner"; then
     same "combinatorial map in C" "$BUILD/partner.txt" examples/partner.stdout "${run[@]}" "$BUILD/partner"
@@ -228,6 +239,10 @@ elif can "Rust" cargo "$TARGET" "${for_c[@]}"; then
     if built "example in Rust" cargo_for_library build -q --example unfold; then
         same "example in Rust" "$BUILD/unfold_rust.txt" examples/unfold.stdout \
             unfoldings "${run[@]}" "$cargo_target/$TARGET/debug/examples/unfold"
+    fi
+    if built "a station's day in Rust" cargo_for_library build -q --example station; then
+        same "a station's day in Rust" "$BUILD/station_rust.txt" examples/station.stdout \
+            days "${run[@]}" "$cargo_target/$TARGET/debug/examples/station"
     fi
 fi
 
