@@ -20,11 +20,12 @@ use Rattle.answers.specs.Numbers.{refusalOf}
 use Rattle.answers.specs.Lent.{lentOf}
 use Rattle.answers.specs.declared.Refusal.{Refusal}
 use Rattle.answers.proofs.Refusals.{refusal-keeps}
-use Rattle.checking.specs.Climb.{baseAndMarks}
+use Rattle.checking.specs.Checked.{baseAndMarks}
 use Rattle.checking.specs.Added.{addSizes, rowMarks, addMarks, newTop, ascends, ascendLeaves}
 use Rattle.checking.proofs.AddKernels.{ascends-late}
-use Rattle.checking.proofs.ClimbVerdicts.{Says, Early, says-when, says-then, says-scan, lengths-early, at-sizes, at-marks, at-kernels}
-use Rattle.checking.proofs.ClimbCheck.{Lent, lent-facts, marks-early-all}
+use Rattle.climbing.proofs.Verdicts.{Says, says-when, says-then, says-scan}
+use Rattle.checking.proofs.Early.{Early, lengths-early, at-sizes, at-marks, at-kernels}
+use Rattle.checking.proofs.PyramidCheck.{Lent, lent-facts, marks-early-all}
 
 module _ (n N h : ℕ) (rows lambda delta row table : List ℕ) where
   abbrev others : Bool

@@ -20,9 +20,9 @@ use Rattle.laws.proofs.Verdicts.{then-accepted, scan-same}
 use Rattle.laws.proofs.Tables.{getD-listed, length-listed, explicit-same}
 use Rattle.facts.proofs.Adding.{marks-kept, marks-new, allowed-added}
 use Rattle.facts.proofs.Climbing.{row-check, next-table, top-table}
-use Rattle.checking.specs.Climb.{Base, climbs, climbLeaves}
+use Rattle.climbing.specs.Climb.{Base, climbs, climbLeaves}
 use Rattle.checking.specs.Added.{newTop, ascends, ascendLeaves}
-use Rattle.checking.proofs.ClimbVerdicts.{Says, Late, passed, says, says-then, says-more, kernel-late, kernels-late}
+use Rattle.climbing.proofs.Verdicts.{Says, Late, passed, says, says-then, says-more, kernel-late, kernels-late}
 
 -- the second verdict matters only where the first is accepted
 then-same : (v w u : Verdict) → (v ≡ accepted → w ≡ u) → (v then w) ≡ (v then u)

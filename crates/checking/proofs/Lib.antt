@@ -1,6 +1,4 @@
-pub mod ClimbVerdicts
-pub mod ClimbSteps
-pub mod ClimbCheck
-pub mod Rows
+mod Early
+pub mod PyramidCheck
 mod AddKernels
 mod AddCheck

@@ -10,7 +10,8 @@ use Rattle.maps.specs.Check.{checkKernel}
 use Rattle.maps.specs.CheckPyramid.{leftBehind}
 use Rattle.maps.specs.AddLevel.{atRow8, number20}
 use Rattle.answers.specs.Lent.{lentOf}
-use Rattle.checking.specs.Climb.{baseAndMarks, climbs}
+use Rattle.climbing.specs.Climb.{climbs}
+use Rattle.checking.specs.Checked.{baseAndMarks}
 
 -- 1 2 3 4 20
 abbrev pub addSizes : ℕ → ℕ → ℕ → List ℕ → List ℕ → List ℕ → List ℕ → List ℕ → Verdict

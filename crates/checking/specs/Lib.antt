@@ -1,3 +1,3 @@
 pub mod Answers
-pub mod Climb
+pub mod Checked
 pub mod Added

@@ -1,5 +1,4 @@
 // Check a whole pyramid, with one lent table, and add a level. An add's new Λ and Δ, 8,192 bytes, are all the local memory here. Assumes nothing.
-use super::climb::rise;
 use answers::Check;
 use answers::Dim;
 use answers::Level;
@@ -19,7 +18,8 @@ ghost use Rattle.maps.specs.Verdict.{accepted};
 ghost use Rattle.maps.specs.CheckPyramid.{checkLent, checkLeaves};
 ghost use Rattle.maps.specs.AddLevel.{refusedMark, addLent, addHeight, addLambda, addDelta, addLeaves};
 ghost use Rattle.answers.specs.Numbers.{verdictOf};
-ghost use Rattle.checking.specs.Climb.{lentSizes, baseSizes, Base, baseAndMarks};
+ghost use Rattle.climbing.specs.Climb.{Base};
+ghost use Rattle.checking.specs.Checked.{lentSizes, baseSizes, baseAndMarks};
 ghost use Rattle.checking.specs.Added.{addSizes, rowMarks, addMarks, ascends, ascendLeaves};
 ghost use Rattle.checking.specs.Answers.{addedOf, heightOf};
 
@@ -79,7 +79,7 @@ pub fn check(
     if let Check::Refused(r) = base_and_marks(n, darts, h, rows, lambda, delta) {
         return Check::Refused(r);
     }
-    rise(n, darts as usize, h, rows, lambda, delta, table)
+    climbing::rise(n, darts as usize, h, rows, lambda, delta, table)
 }
 
 // The new height, or a refusal.
@@ -279,7 +279,7 @@ fn ascend(
         &mut new_delta[..width],
     );
     let next = Level(h.0 + 1);
-    rise(
+    climbing::rise(
         n,
         width,
         next,

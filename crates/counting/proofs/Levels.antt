@@ -23,7 +23,7 @@ use Rattle.facts.proofs.Checks.{There, sound-map, pyramid-check}
 use Rattle.facts.proofs.Levels.{level-valid}
 use Rattle.facts.proofs.Stored.{stored, stored-present, stored-sound}
 use Rattle.orbits.specs.Explicit.{ExplicitLevel}
-use Rattle.checking.specs.Climb.{Base, climbsTo, climbToLeaves}
+use Rattle.climbing.specs.Climb.{Base, climbsTo, climbToLeaves}
 
 -- two maps that agree on the darts of one
 module _ (a b : Involutions) (n N : ℕ) (p : ℕ → Bool) (same : (j d : ℕ) → j ≤ n → There a n N p d → a j d ≡ b j d) (v : Valid a n (There a n N p)) (i : ℕ) where

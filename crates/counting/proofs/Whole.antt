@@ -23,7 +23,7 @@ use Rattle.answers.specs.Numbers.{refusalOf}
 use Rattle.answers.specs.declared.Refusal.{Refusal}
 use Rattle.answers.proofs.Refusals.{refusal-refuses}
 use Rattle.orbits.specs.Explicit.{ExplicitLevel}
-use Rattle.checking.specs.Climb.{climbToLeaves}
+use Rattle.climbing.specs.Climb.{climbToLeaves}
 use Rattle.counting.specs.Counts.{LevelCounted, zeroed, Counted, Few, Summed}
 use Rattle.counting.proofs.Levels.{table-explicit, table-accepted, table-climbed, table-counted}
 use Rattle.counting.proofs.Alternating.{alternating-unused, alternating-zero}

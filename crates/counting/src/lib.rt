@@ -50,7 +50,7 @@ fn count_climbed(
     ensures { λ r. ⌜ LevelCounted (n .0) darts (tableAt (n .0) darts (h .0) (now (rows .entry)) (now (lambda .entry)) (now (delta .entry)) (now (table .entry)) (level .0)) r ⌝ }
     ensures { λ _. ⌜ now (table .exit) ≡ tableAt (n .0) darts (h .0) (now (rows .entry)) (now (lambda .entry)) (now (delta .entry)) (now (table .entry)) (level .0) ⌝ }
 {
-    checking::climb_to(n, darts as usize, h, level, rows, lambda, delta, table);
+    climbing::climb_to(n, darts as usize, h, level, rows, lambda, delta, table);
     count_level(n, darts, table)
 }
 

@@ -15,8 +15,8 @@ use Rattle.maps.specs.Join.{joinΛ}
 use Rattle.laws.proofs.Tables.{length-listed}
 use Rattle.facts.proofs.Joining.{allowed-joined, table-lower}
 use Rattle.facts.proofs.JoinedJobs.{verdict-joins, kernels-joined, each-joined}
-use Rattle.checking.specs.Climb.{Base, climbs, climbLeaves}
-use Rattle.checking.proofs.ClimbVerdicts.{kernel-late, late-leaves}
+use Rattle.climbing.specs.Climb.{Base, climbs, climbLeaves}
+use Rattle.climbing.proofs.Verdicts.{kernel-late, late-leaves}
 use Rattle.joining.specs.Climbed.{Checked, joinedVerdict, joinedLeaves}
 
 -- a value that is the same where a verdict accepts, and one where it refuses

@@ -17,7 +17,7 @@ use Rattle.facts.proofs.ExactJobs.{check-accepts}
 use Rattle.answers.specs.Numbers.{refusalOf}
 use Rattle.answers.specs.declared.Refusal.{Refusal}
 use Rattle.answers.proofs.Refusals.{refusal-keeps, refused-first}
-use Rattle.checking.proofs.ClimbVerdicts.{kernel-late, late-leaves}
+use Rattle.climbing.proofs.Verdicts.{kernel-late, late-leaves}
 use Rattle.joining.specs.Climbed.{Checked, joinedVerdict, joinedLeaves}
 
 -- what a refusal leaves of what it left

@@ -80,7 +80,7 @@ fn climb(
     let lower = Level(h.0 - 1);
     let mut joined = [0u8; 4096];
     join_row(level, lambda, &mut joined[..width]);
-    checking::rise(n, width, lower, rows, &joined[..width], delta, table)
+    climbing::rise(n, width, lower, rows, &joined[..width], delta, table)
 }
 
 // Join the kernels of this level and the next. The pyramid is checked first; Λ is written only once the joined kernel is accepted.

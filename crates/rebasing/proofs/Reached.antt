@@ -10,8 +10,8 @@ use Rattle.laws.proofs.Verdicts.{scan-accepted}
 use Rattle.facts.proofs.Checks.{There, kernel-sound}
 use Rattle.kernels.specs.Strings.{kernelRow}
 use Rattle.kernels.specs.Ready.{Ready, removedFrom}
-use Rattle.checking.specs.Climb.{climbs}
-use Rattle.checking.proofs.ClimbSteps.{Climbed, climb-tested, climb-next, kernel-is}
+use Rattle.climbing.specs.Climb.{climbs}
+use Rattle.climbing.proofs.Steps.{Climbed, climb-tested, climb-next, kernel-is}
 
 module _ {n N h : ℕ} {rows lambda delta table : List ℕ} {l : ℕ} (c : Climbed n N h rows lambda delta table l) (f : l < h) (all : climbs n N h rows lambda delta ≡ accepted) where
   abbrev row : ℕ → ℕ

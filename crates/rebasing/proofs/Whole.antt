@@ -17,9 +17,9 @@ use Rattle.facts.proofs.AcceptedJobs.{accepted-pyramid}
 use Rattle.answers.specs.Numbers.{refusalOf}
 use Rattle.answers.specs.declared.Refusal.{Refusal}
 use Rattle.answers.proofs.Refusals.{refusal-keeps}
-use Rattle.checking.proofs.ClimbCheck.{Lent, check-passed}
+use Rattle.checking.proofs.PyramidCheck.{Lent, check-passed}
 use Rattle.rebasing.specs.Answers.{Outcome, rebasing}
-use Rattle.rebasing.specs.Climbing.{Reached}
+use Rattle.rebasing.specs.Reaching.{Reached}
 use Rattle.rebasing.specs.Packing.{Inside}
 use Rattle.rebasing.proofs.Numbering.{kth-is}
 use Rattle.rebasing.proofs.Packs.{packed-same}

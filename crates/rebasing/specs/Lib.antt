@@ -1,3 +1,3 @@
 pub mod Answers
-pub mod Climbing
+pub mod Reaching
 pub mod Packing

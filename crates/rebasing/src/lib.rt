@@ -1,5 +1,5 @@
 // Start again from a higher level: it becomes the base, and its survivors are packed to the front of what is lent. Assumes nothing.
-mod climbing; // climbing.rt: the kernels below the level, removed in the rows
+mod reaching; // reaching.rt: the kernels below the level, removed in the rows
 mod packing; // packing.rt: the survivors of the level, packed to the front
 
 use answers::Check;
@@ -87,7 +87,7 @@ pub fn rebase(
     if let Check::Refused(r) = tested(n, darts, h, rows, lambda, delta, table, level, old) {
         return Rebased::Refused(r);
     }
-    climbing::climb(n, darts as usize, level, lambda, delta, rows);
+    reaching::climb(n, darts as usize, level, lambda, delta, rows);
     let count = packing::rank(lambda, level, old);
     packing::pack_rows(n, lambda, level, old, count as usize, rows);
     packing::pack_marks(level, lambda, delta, old);

@@ -9,7 +9,7 @@ use borrow.Author.Needs.{needs}
 use Rattle.maps.specs.Table.{each, listed}
 use Rattle.maps.specs.Join.{joinΛ}
 use Rattle.laws.proofs.Tables.{length-listed}
-use Rattle.checking.proofs.Rows.{blank, blank-part, part-is, part-whole}
+use Rattle.climbing.proofs.Rows.{blank, blank-part, part-is, part-whole}
 use Rattle.joining.proofs.Climbs.{climb-base, climb-verdict, climb-leaves}
 use Rattle.joining.proofs.climb.Statement.{statement}
 use Rattle.joining.proofs.climb.Tie as tie

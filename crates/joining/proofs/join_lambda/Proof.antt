@@ -8,7 +8,7 @@ use lib.Dec.{ltb}
 use borrow.Author.Needs.{needs}
 use Rattle.maps.specs.Table.{each}
 use Rattle.maps.specs.Join.{joinΛ}
-use Rattle.checking.proofs.Rows.{RowTo, row-none, row-set, row-all}
+use Rattle.climbing.proofs.Rows.{RowTo, row-none, row-set, row-all}
 use Rattle.joining.proofs.join_lambda.Statement.{statement}
 use Rattle.joining.proofs.join_lambda.Tie as tie
 

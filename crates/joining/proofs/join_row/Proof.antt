@@ -5,7 +5,7 @@ use lib.ListN.{length}
 use borrow.Author.Needs.{needs}
 use Rattle.maps.specs.Table.{each}
 use Rattle.maps.specs.Join.{joinΛ}
-use Rattle.checking.proofs.Rows.{RowTo, row-none, row-set, row-all}
+use Rattle.climbing.proofs.Rows.{RowTo, row-none, row-set, row-all}
 use Rattle.joining.proofs.join_row.Statement.{statement}
 use Rattle.joining.proofs.join_row.Tie as tie
 

@@ -9,9 +9,9 @@ use Rattle.maps.specs.Table.{each, listed}
 use Rattle.maps.specs.Folded.{addΛ, addΔ}
 use Rattle.laws.proofs.Verdicts.{then-accepted}
 use Rattle.answers.proofs.Refusals.{told}
-use Rattle.checking.specs.Climb.{baseAndMarks}
+use Rattle.checking.specs.Checked.{baseAndMarks}
 use Rattle.checking.specs.Added.{addSizes, rowMarks, addMarks}
-use Rattle.checking.proofs.ClimbCheck.{Lent, based}
+use Rattle.checking.proofs.PyramidCheck.{Lent, based}
 use Rattle.checking.proofs.AddCheck.{add-facts, row-marks, sizes-refused, marks-refused, ascend-refused, grown}
 use Rattle.checking.proofs.pyramid.add.Statement.{statement}
 use Rattle.checking.proofs.pyramid.add.Tie as tie

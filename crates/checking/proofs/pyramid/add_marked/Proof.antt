@@ -2,7 +2,7 @@
 use denote.Ref.{now}
 use borrow.Author.Needs.{needs}
 use Rattle.answers.proofs.Refusals.{told, refused-then}
-use Rattle.checking.specs.Climb.{baseAndMarks}
+use Rattle.checking.specs.Checked.{baseAndMarks}
 use Rattle.checking.specs.Added.{rowMarks}
 use Rattle.checking.proofs.pyramid.add_marked.Statement.{statement}
 use Rattle.checking.proofs.pyramid.add_marked.Tie as tie

@@ -10,7 +10,7 @@ use borrow.Author.Needs.{needs}
 use Rattle.maps.specs.Table.{each, listed}
 use Rattle.maps.specs.Folded.{addΛ, addΔ}
 use Rattle.laws.proofs.Tables.{length-listed}
-use Rattle.checking.proofs.Rows.{blank, blank-part, part-is, part-whole}
+use Rattle.climbing.proofs.Rows.{blank, blank-part, part-is, part-whole}
 use Rattle.checking.proofs.AddKernels.{ascend-base, ascend-risen}
 use Rattle.checking.proofs.pyramid.ascend.Statement.{statement}
 use Rattle.checking.proofs.pyramid.ascend.Tie as tie

@@ -9,7 +9,7 @@ use Rattle.maps.specs.MarksBack.{atMarks8}
 use Rattle.answers.specs.Numbers.{verdictOf}
 use Rattle.answers.proofs.Refusals.{told, refused-then}
 use Rattle.answers.proofs.Marked.{marks-decide}
-use Rattle.checking.proofs.ClimbCheck.{base-map}
+use Rattle.checking.proofs.PyramidCheck.{base-map}
 use Rattle.checking.proofs.pyramid.base_and_marks.Statement.{statement}
 use Rattle.checking.proofs.pyramid.base_and_marks.Tie as tie
 

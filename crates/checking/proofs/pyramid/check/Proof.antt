@@ -4,8 +4,8 @@ use denote.Ref.{now}
 use borrow.Author.Needs.{needs}
 use Rattle.maps.specs.Verdict.{accepted}
 use Rattle.answers.proofs.Refusals.{told}
-use Rattle.checking.specs.Climb.{lentSizes, baseAndMarks}
-use Rattle.checking.proofs.ClimbCheck.{Lent, check-facts, based, check-sizes, check-marks, check-climbed}
+use Rattle.checking.specs.Checked.{lentSizes, baseAndMarks}
+use Rattle.checking.proofs.PyramidCheck.{Lent, check-facts, based, check-sizes, check-marks, check-climbed}
 use Rattle.checking.proofs.pyramid.check.Statement.{statement}
 use Rattle.checking.proofs.pyramid.check.Tie as tie
 

@@ -5,7 +5,7 @@ use native.Mathlib.Omega.{arith}
 use lib.ListN.{length}
 use borrow.Author.Needs.{needs}
 use Rattle.maps.specs.Table.{each}
-use Rattle.checking.proofs.Rows.{RowTo, row-none, row-set, row-copied}
+use Rattle.climbing.proofs.Rows.{RowTo, row-none, row-set, row-copied}
 use Rattle.checking.proofs.pyramid.copy_row.Statement.{statement}
 use Rattle.checking.proofs.pyramid.copy_row.Tie as tie
 

@@ -10,7 +10,7 @@ use borrow.Author.Needs.{needs}
 use Rattle.maps.specs.Mark.{isMark}
 use Rattle.maps.specs.Table.{each}
 use Rattle.maps.specs.Folded.{addΛ, addΔ}
-use Rattle.checking.proofs.Rows.{RowTo, row-none, row-set, row-all}
+use Rattle.climbing.proofs.Rows.{RowTo, row-none, row-set, row-all}
 use Rattle.checking.proofs.pyramid.fold_in.Statement.{statement}
 use Rattle.checking.proofs.pyramid.fold_in.Tie as tie
 

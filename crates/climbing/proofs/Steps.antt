@@ -23,8 +23,8 @@ use Rattle.answers.proofs.Refusals.{refusal-refuses, refusal-keeps}
 use Rattle.kernels.specs.Strings.{kernelRow, Linked, Marks, Strung}
 use Rattle.kernels.specs.Ready.{Tested, removedFrom, stepLeaves}
 use Rattle.kernels.proofs.Strung.{in-kernel, first-same}
-use Rattle.checking.specs.Climb.{Base, climbsTo, climbToLeaves}
-use Rattle.checking.proofs.ClimbVerdicts.{kernel-late, late-leaves}
+use Rattle.climbing.specs.Climb.{Base, climbsTo, climbToLeaves}
+use Rattle.climbing.proofs.Verdicts.{kernel-late, late-leaves}
 
 -- kernels 0 to l−1 are accepted and removed
 pub record Climbed (n N h : ℕ) (rows lambda delta table : List ℕ) (l : ℕ) : Type 0 where

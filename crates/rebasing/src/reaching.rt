@@ -5,7 +5,7 @@ ghost use mathlib.Core.Path.{_≡_};
 ghost use Prim.Native.Nat.{ℕ};
 ghost use Rattle.maps.specs.Table.{entry, each};
 ghost use Rattle.maps.specs.Folded.{levelTable};
-ghost use Rattle.rebasing.specs.Climbing.{Reached, HasLevel};
+ghost use Rattle.rebasing.specs.Reaching.{Reached, HasLevel};
 
 // Kernels 0 to level−1, in rising order. They are accepted, so none is tested again.
 pub(crate) fn climb(

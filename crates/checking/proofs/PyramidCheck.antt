@@ -19,8 +19,10 @@ use Rattle.facts.proofs.Checks.{map-sound, valid-base}
 use Rattle.answers.specs.Numbers.{refusalOf}
 use Rattle.answers.specs.Lent.{lentOf}
 use Rattle.answers.specs.declared.Refusal.{Refusal}
-use Rattle.checking.specs.Climb.{lentSizes, baseSizes, baseAndMarks, Base, climbs, climbLeaves}
-use Rattle.checking.proofs.ClimbVerdicts.{Says, Early, says-then, lengths-early, map-early, marks-early, kernels-late, at-sizes, at-marks, at-kernels}
+use Rattle.climbing.specs.Climb.{Base, climbs, climbLeaves}
+use Rattle.checking.specs.Checked.{lentSizes, baseSizes, baseAndMarks}
+use Rattle.climbing.proofs.Verdicts.{Says, says-then, kernels-late}
+use Rattle.checking.proofs.Early.{Early, lengths-early, map-early, marks-early, at-sizes, at-marks, at-kernels}
 
 -- what 1 to 4 tell when they are not refused
 pub record Lent (n N h : ℕ) (rows lambda delta table : List ℕ) : Type 0 where

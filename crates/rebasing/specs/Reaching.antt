@@ -3,7 +3,7 @@ use mathlib.Core.Path.{_≡_}
 use mathlib.Core.List.{List}
 use Prim.Native.Nat.{ℕ, _≤_}
 use Rattle.maps.specs.Verdict.{accepted}
-use Rattle.checking.specs.Climb.{Base, climbs}
+use Rattle.climbing.specs.Climb.{Base, climbs}
 
 -- base and marks of an accepted pyramid of height h, and level l is one of its levels
 pub record Reached (n N h : ℕ) (rows lambda delta : List ℕ) (l : ℕ) : Type 0 where

@@ -1,14 +1,14 @@
--- `rebasing::climbing::climb` meets its contract. The invariant: the kernels passed are removed, and the rows hold the level that they leave. The measure is the kernels left. Assumes nothing.
+-- `rebasing::reaching::climb` meets its contract. The invariant: the kernels passed are removed, and the rows hold the level that they leave. The measure is the kernels left. Assumes nothing.
 use mathlib.Core.Path.{_≡_, refl}
 use Prim.Native.Nat.{ℕ, _-_, _≤_, _<_, zero-le}
 use native.Mathlib.Omega.{arith}
 use lib.ListN.{getD-replicate}
 use borrow.Author.Needs.{needs}
-use Rattle.checking.proofs.ClimbSteps.{Climbed, climb-none, climb-long, climb-strung}
-use Rattle.rebasing.specs.Climbing.{Reached}
+use Rattle.climbing.proofs.Steps.{Climbed, climb-none, climb-long, climb-strung}
+use Rattle.rebasing.specs.Reaching.{Reached}
 use Rattle.rebasing.proofs.Reached.{kernel-ready, kernel-removed}
-use Rattle.rebasing.proofs.climbing.climb.Statement.{statement}
-use Rattle.rebasing.proofs.climbing.climb.Tie as tie
+use Rattle.rebasing.proofs.reaching.climb.Statement.{statement}
+use Rattle.rebasing.proofs.reaching.climb.Tie as tie
 
 abbrev Inv-loop : tie.InvT-loop
 Inv-loop n darts lambda delta rows₀ head next top l₀ rows l = (l ≤ top) × ((h : ℕ) → Reached (n .0) darts h rows₀ lambda delta top → Climbed (n .0) darts h rows₀ lambda delta rows l)

@@ -1,9 +1,9 @@
--- `checking::climb::rise` meets its contract: all kernels are those below the height. Assumes nothing.
+-- `climbing::rise` meets its contract: all kernels are those below the height. Assumes nothing.
 use native.Mathlib.Omega.{arith}
 use borrow.Author.Needs.{needs}
 use Rattle.maps.specs.Check.{checkKernels}
-use Rattle.checking.proofs.climb.rise.Statement.{statement}
-use Rattle.checking.proofs.climb.rise.Tie as tie
+use Rattle.climbing.proofs.rise.Statement.{statement}
+use Rattle.climbing.proofs.rise.Tie as tie
 
 climb-to-requires : tie.Need-climb-to-requires
 climb-to-requires c κs = let p = c .before .before .before .before .before .pre in (p .0, omega arith, p .1)

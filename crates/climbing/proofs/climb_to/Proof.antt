@@ -1,4 +1,4 @@
--- `checking::climb::climb_to` meets its contract. The invariant: the kernels passed are accepted, and the table holds the level that they leave, whatever the height; it is said of each height, since no step reads it. The measure is the kernels left. Assumes nothing.
+-- `climbing::climb_to` meets its contract. The invariant: the kernels passed are accepted, and the table holds the level that they leave, whatever the height; it is said of each height, since no step reads it. The measure is the kernels left. Assumes nothing.
 use mathlib.Core.Path.{refl, sym, _∙_}
 use Prim.Native.Nat.{ℕ, _-_, _≤_, _<_, zero-le}
 use native.Mathlib.Omega.{arith}
@@ -6,10 +6,10 @@ use lib.ListN.{getD-replicate}
 use denote.Ref.{now}
 use borrow.Author.Needs.{needs}
 use Rattle.answers.proofs.Refusals.{told}
-use Rattle.checking.specs.Climb.{Base}
-use Rattle.checking.proofs.ClimbSteps.{Climbed, climb-none, climb-long, climb-tested, climb-strung, climb-refused, climb-next, climb-all}
-use Rattle.checking.proofs.climb.climb_to.Statement.{statement}
-use Rattle.checking.proofs.climb.climb_to.Tie as tie
+use Rattle.climbing.specs.Climb.{Base}
+use Rattle.climbing.proofs.Steps.{Climbed, climb-none, climb-long, climb-tested, climb-strung, climb-refused, climb-next, climb-all}
+use Rattle.climbing.proofs.climb_to.Statement.{statement}
+use Rattle.climbing.proofs.climb_to.Tie as tie
 
 abbrev Inv-loop : tie.InvT-loop
 Inv-loop n darts rows lambda delta table₀ head next top l₀ table l = (l ≤ top) × ((h : ℕ) → Base (n .0) darts h rows lambda delta → top ≤ h → Climbed (n .0) darts h rows lambda delta table l)

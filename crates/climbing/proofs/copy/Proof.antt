@@ -1,13 +1,13 @@
--- `checking::climb::copy` meets its contract. The invariant: the entries passed are those of the base. The measure is the entries left. Assumes nothing.
+-- `climbing::copy` meets its contract. The invariant: the entries passed are those of the base. The measure is the entries left. Assumes nothing.
 use mathlib.Core.Path.{refl}
 use Prim.Native.Nat.{_-_, _≤_, zero-le}
 use native.Mathlib.Omega.{arith}
 use lib.ListN.{length}
 use borrow.Author.Needs.{needs}
 use Rattle.maps.specs.Table.{each}
-use Rattle.checking.proofs.Rows.{RowTo, row-none, row-set, row-copied}
-use Rattle.checking.proofs.climb.copy.Statement.{statement}
-use Rattle.checking.proofs.climb.copy.Tie as tie
+use Rattle.climbing.proofs.Rows.{RowTo, row-none, row-set, row-copied}
+use Rattle.climbing.proofs.copy.Statement.{statement}
+use Rattle.climbing.proofs.copy.Tie as tie
 
 abbrev Inv-loop : tie.InvT-loop
 Inv-loop rows table₀ k₀ k-end table k = (k ≤ length rows) × RowTo (each rows) k table₀ table

@@ -1,4 +1,4 @@
-// Kernels climbed one after the other, each on its own level. The strings of the darts by kernel, 8,704 bytes, are all the local memory.
+// Kernels climbed one after the other, each on its own level. The strings of the darts by kernel, 8,704 bytes, are all the local memory. Each function says what it asks of its caller: base and marks that have passed 1 to 8.
 use answers::Check;
 use answers::Dim;
 use answers::Level;
@@ -6,7 +6,7 @@ ghost use mathlib.Core.Path.{_≡_};
 ghost use Prim.Native.Nat.{_≤_};
 ghost use lib.ListN.{length};
 ghost use Rattle.answers.specs.Numbers.{verdictOf};
-ghost use Rattle.checking.specs.Climb.{Base, climbs, climbLeaves, climbsTo, climbToLeaves};
+ghost use Rattle.climbing.specs.Climb.{Base, climbs, climbLeaves, climbsTo, climbToLeaves};
 
 // The base, copied into the lent table.
 fn copy(rows: &[u16], table: &mut [u16])
