@@ -3,18 +3,10 @@
 use answers::Check;
 use answers::Dim;
 use answers::Level;
-use answers::Refusal;
 use records::Taken;
 ghost use mathlib.Core.Path.{_≡_};
 ghost use Prim.Native.Nat.{_≤_};
-ghost use lib.ListN.{length};
 ghost use lib.IntN.{natAbs};
-
-// A number behind a space.
-fn next(number: u64) {
-    io::write_all(1, b" ");
-    io::print_decimal(1, number);
-}
 
 // How far a number is from zero.
 fn distance(number: i32) -> u64
@@ -36,17 +28,6 @@ fn next_signed(number: i32) {
     io::print_decimal(1, distance(number));
 }
 
-// A refusal prints one line: the word refused, then number, level, involution and dart.
-fn refuse(refusal: Refusal) {
-    let r = answers::numbers_of(refusal);
-    io::write_all(1, b"refused");
-    next(r.number as u64);
-    next(r.level as u64);
-    next(r.involution as u64);
-    next(r.dart as u64);
-    io::write_all(1, b"\n");
-}
-
 // Number, the n+1 counts, sum.
 fn level_line(n: Dim, level: Level, counts: [u16; 5], sum: i32)
     requires { ⌜ n .0 ≤ 4 ⌝ }
@@ -54,7 +35,7 @@ fn level_line(n: Dim, level: Level, counts: [u16; 5], sum: i32)
     io::print_decimal(1, level.0 as u64);
     let last = n.0;
     for i in 0..=last {
-        next(counts[i as usize] as u64);
+        programs::number(1, counts[i as usize] as u64);
     }
     next_signed(sum);
     io::write_all(1, b"\n");
@@ -93,36 +74,12 @@ fn print_census(
         &mut cells,
         &mut sums,
     ) {
-        Check::Refused(r) => refuse(r),
+        Check::Refused(r) => programs::refuse(1, r),
         Check::Accepted => all_levels(n, h, cells, sums),
     }
 }
 
-// The pyramid of a record that was taken: it stands at the front of the arrays, since its sizes are in range.
-fn print_taken(
-    n: Dim,
-    darts: u16,
-    h: Level,
-    rows: &[u16],
-    lambda: &[u8],
-    delta: &[u8],
-    table: &mut [u16],
-)
-    requires { ⌜ (n .0 ≤ 4) × (darts ≤ 4096) × (length (now rows) ≡ 20480) × (length (now lambda) ≡ 4096) × (length (now delta) ≡ 4096) × (length (now table) ≡ 20480) ⌝ }
-{
-    let width = darts as usize;
-    let size = (n.0 as usize + 1) * width;
-    print_census(
-        n,
-        darts,
-        h,
-        &rows[..size],
-        &lambda[..width],
-        &delta[..width],
-        &mut table[..size],
-    );
-}
-
+// A pyramid that is taken stands at the front of the arrays, since its sizes are in range.
 fn main() {
     let mut input = io::large_buffer();
     let mut rows = [0u16; 20480];
@@ -137,7 +94,19 @@ fn main() {
         &mut delta,
         &mut table,
     ) {
-        Taken::Refused(r) => refuse(r),
-        Taken::Record(n, h, darts) => print_taken(n, darts, h, &rows, &lambda, &delta, &mut table),
+        Taken::Refused(r) => programs::refuse(1, r),
+        Taken::Record(n, h, darts) => {
+            let width = darts as usize;
+            let size = programs::entries(n, darts);
+            print_census(
+                n,
+                darts,
+                h,
+                &rows[..size],
+                &lambda[..width],
+                &delta[..width],
+                &mut table[..size],
+            );
+        }
     }
 }

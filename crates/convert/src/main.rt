@@ -1,26 +1,8 @@
 // Takes an old record from standard input and writes the new one, of the same pyramid, to standard output. A refused record writes nothing there; its line goes to the error stream.
 // It keeps 204,828 bytes: the input (65,536), the new record (49,180), rows and a table (40,960 each), Λ and Δ (4,096 each). Assumes the contracts of read and write.
-use answers::Refusal;
 use writing::Written;
 ghost use Prim.Native.Nat.{_≤_};
 ghost use lib.ListN.{length};
-
-// A number after a space, on the error stream.
-fn number(x: u16) {
-    io::write_all(2, b" ");
-    io::print_decimal(2, x as u64);
-}
-
-// A refusal prints one line: the word refused, then number, level, involution and dart.
-fn refuse(refusal: Refusal) {
-    let r = answers::numbers_of(refusal);
-    io::write_all(2, b"refused");
-    number(r.number);
-    number(r.level);
-    number(r.involution);
-    number(r.dart);
-    io::write_all(2, b"\n");
-}
 
 // The new record, which stands at the front of the buffer.
 fn hand_out(new: &[u8], size: u32)
@@ -45,7 +27,7 @@ fn main() {
         &mut table,
         &mut new,
     ) {
-        Written::Refused(r) => refuse(r),
+        Written::Refused(r) => programs::refuse(2, r),
         Written::Bytes(size) => hand_out(&new, size),
     }
 }

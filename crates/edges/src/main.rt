@@ -12,20 +12,10 @@ fn taken(name: &[u8]) {
     io::write_all(1, b": taken\n");
 }
 
-fn number(x: u16) {
-    io::write_all(1, b" ");
-    io::print_decimal(1, x as u64);
-}
-
 fn refused(name: &[u8], refusal: Refusal) {
-    let r = answers::numbers_of(refusal);
     io::write_all(1, name);
-    io::write_all(1, b": refused");
-    number(r.number);
-    number(r.level);
-    number(r.involution);
-    number(r.dart);
-    io::write_all(1, b"\n");
+    io::write_all(1, b": ");
+    programs::refuse(1, refusal);
 }
 
 fn checked(name: &[u8], check: Check) {

@@ -2,36 +2,15 @@
 // It keeps 156,160 bytes: the input (65,536), rows and a table (40,960 each), Λ and Δ (4,096 each) and survivor words (512). Assumes the contracts of read and write.
 use answers::Dim;
 use answers::Level;
-use answers::Refusal;
 use reading::Unfolding;
 use records::Taken;
-ghost use mathlib.Core.Path.{_≡_};
-ghost use Prim.Native.Nat.{_≤_};
-ghost use lib.ListN.{length};
-
-fn three(a: u64, b: u64, c: u64) {
-    io::print_decimal(1, a);
-    io::write_all(1, b" ");
-    io::print_decimal(1, b);
-    io::write_all(1, b" ");
-    io::print_decimal(1, c);
-}
-
-// A refusal prints one line: the word refused, then number, level, involution and dart.
-fn refuse(refusal: Refusal) {
-    let r = answers::numbers_of(refusal);
-    io::write_all(1, b"refused ");
-    io::print_decimal(1, r.number as u64);
-    io::write_all(1, b" ");
-    three(r.level as u64, r.involution as u64, r.dart as u64);
-    io::write_all(1, b"\n");
-}
 
 // Number, survivors, total count, and since which level all links stand.
 fn level_line(level: Level, survivors: u32, all: Unfolding) {
-    three(level.0 as u64, survivors as u64, all.count as u64);
-    io::write_all(1, b" ");
-    io::print_decimal(1, all.since.0 as u64);
+    io::print_decimal(1, level.0 as u64);
+    programs::number(1, survivors as u64);
+    programs::number(1, all.count as u64);
+    programs::number(1, all.since.0 as u64);
     io::write_all(1, b"\n");
 }
 
@@ -48,7 +27,7 @@ fn one_level(
     words: &mut [u64; 64],
 ) {
     match rows::survivors(darts, h, lambda, level, words) {
-        rows::Survivors::Refused(r) => refuse(r),
+        rows::Survivors::Refused(r) => programs::refuse(1, r),
         rows::Survivors::Counted(survivors) => match reading::unfold(
             n,
             darts,
@@ -59,7 +38,7 @@ fn one_level(
             level,
             table,
         ) {
-            reading::Total::Refused(r) => refuse(r),
+            reading::Total::Refused(r) => programs::refuse(1, r),
             reading::Total::Counted(all) => level_line(level, survivors, all),
         },
     }
@@ -101,36 +80,14 @@ fn print_pyramid(
     delta: &[u8],
     table: &mut [u16],
 ) {
-    three(n.0 as u64, darts as u64, h.0 as u64);
+    io::print_decimal(1, n.0 as u64);
+    programs::number(1, darts as u64);
+    programs::number(1, h.0 as u64);
     io::write_all(1, b"\n");
     all_levels(n, darts, h, rows, lambda, delta, table);
 }
 
-// The pyramid of a record that was taken: it stands at the front of the arrays, since its sizes are in range.
-fn print_taken(
-    n: Dim,
-    darts: u16,
-    h: Level,
-    rows: &[u16],
-    lambda: &[u8],
-    delta: &[u8],
-    table: &mut [u16],
-)
-    requires { ⌜ (n .0 ≤ 4) × (darts ≤ 4096) × (length (now rows) ≡ 20480) × (length (now lambda) ≡ 4096) × (length (now delta) ≡ 4096) × (length (now table) ≡ 20480) ⌝ }
-{
-    let width = darts as usize;
-    let size = (n.0 as usize + 1) * width;
-    print_pyramid(
-        n,
-        darts,
-        h,
-        &rows[..size],
-        &lambda[..width],
-        &delta[..width],
-        &mut table[..size],
-    );
-}
-
+// A pyramid that is taken stands at the front of the arrays, since its sizes are in range.
 fn main() {
     let mut input = io::large_buffer();
     let mut rows = [0u16; 20480];
@@ -145,7 +102,19 @@ fn main() {
         &mut delta,
         &mut table,
     ) {
-        Taken::Refused(r) => refuse(r),
-        Taken::Record(n, h, darts) => print_taken(n, darts, h, &rows, &lambda, &delta, &mut table),
+        Taken::Refused(r) => programs::refuse(1, r),
+        Taken::Record(n, h, darts) => {
+            let width = darts as usize;
+            let size = programs::entries(n, darts);
+            print_pyramid(
+                n,
+                darts,
+                h,
+                &rows[..size],
+                &lambda[..width],
+                &delta[..width],
+                &mut table[..size],
+            );
+        }
     }
 }
