@@ -30,29 +30,32 @@ module _ (list : List ℕ) (p x q y : ℕ) where
 pub kept-none : (M start : ℕ) (list : List ℕ) → Kept M start list list
 kept-none M start list = record { long = refl; rest = λ k w. refl }
 
--- the pair of dart d, whose places and values are known
-module _ (start : ℕ) (number : ℕ → ℕ) (before list : List ℕ) (d p x q y : ℕ) (at-p : p ≡ start + 2 * d) (at-q : q ≡ p + 1) (is-x : x ≡ number d + 1) (is-y : y ≡ number d) (fits : q < length list) where
-  pub pairs-more : Pairs d start number list → Pairs (d + 1) start number (set (set list p x) q y)
+-- the pair of dart d, whose place and even dart are known
+module _ (start : ℕ) (number : ℕ → ℕ) (before list : List ℕ) (d p y : ℕ) (at-p : p ≡ start + 2 * d) (is-y : y ≡ number d) (fits : p + 1 < length list) where
+  abbrev new-list : List ℕ
+  new-list = both list p (y + 1) (p + 1) y
+
+  pairs-more : Pairs d start number list → Pairs (d + 1) start number new-list
   pairs-more h = below-more _ d (λ e l. old e l) new
     where
-      old : (e : ℕ) → e < d → (getD (both list p x q y) (start + 2 * e) 0 ≡ number e + 1) × (getD (both list p x q y) (start + 2 * e + 1) 0 ≡ number e)
-      old e l = (
-        other-is list p x q y (start + 2 * e) (λ f. omega arith) (λ f. omega arith) ∙ h e l .0,
-        other-is list p x q y (start + 2 * e + 1) (λ f. omega arith) (λ f. omega arith) ∙ h e l .1,
-      )
+      stays : (k : ℕ) → (k ≡ p → ⊥) → (k ≡ p + 1 → ⊥) → getD new-list k 0 ≡ getD list k 0
+      stays = other-is list p (y + 1) (p + 1) y
 
-      new : (getD (both list p x q y) (start + 2 * d) 0 ≡ number d + 1) × (getD (both list p x q y) (start + 2 * d + 1) 0 ≡ number d)
-      new =
-          let e : start + 2 * d ≡ p = omega arith in
-          let f : start + 2 * d + 1 ≡ q = omega arith in
-          (rw e (first-is list p x q y (omega arith) (λ g. omega arith) ∙ is-x), rw f (second-is list p x q y fits ∙ is-y))
+      old : (e : ℕ) → e < d → (getD new-list (start + 2 * e) 0 ≡ number e + 1) × (getD new-list (start + 2 * e + 1) 0 ≡ number e)
+      old e l = (stays (start + 2 * e) (λ f. omega arith) (λ f. omega arith) ∙ h e l .0, stays (start + 2 * e + 1) (λ f. omega arith) (λ f. omega arith) ∙ h e l .1)
 
-  pub kept-more : Kept d start before list → Kept (d + 1) start before (set (set list p x) q y)
-  kept-more h = record { long = both-long list p x q y ∙ h .long; rest = λ k w. rest k w }
+      new : (getD new-list (start + 2 * d) 0 ≡ number d + 1) × (getD new-list (start + 2 * d + 1) 0 ≡ number d)
+      new = rw (← at-p, ← is-y) (first-is list p (y + 1) (p + 1) y (omega arith) (λ g. omega arith), second-is list p (y + 1) (p + 1) y fits)
+
+  kept-more : Kept d start before list → Kept (d + 1) start before new-list
+  kept-more h = record { long = both-long list p (y + 1) (p + 1) y ∙ h .long; rest = λ k w. rest k w }
     where
-      rest : (k : ℕ) → (k < start) ⊎ (start + 2 * (d + 1) ≤ k) → getD (both list p x q y) k 0 ≡ getD before k 0
-      rest k (inl l) = other-is list p x q y k (λ f. omega arith) (λ f. omega arith) ∙ h .rest k (inl l)
-      rest k (inr l) = other-is list p x q y k (λ f. omega arith) (λ f. omega arith) ∙ h .rest k (inr (omega arith))
+      rest : (k : ℕ) → (k < start) ⊎ (start + 2 * (d + 1) ≤ k) → getD new-list k 0 ≡ getD before k 0
+      rest k (inl l) = other-is list p (y + 1) (p + 1) y k (λ f. omega arith) (λ f. omega arith) ∙ h .rest k (inl l)
+      rest k (inr l) = other-is list p (y + 1) (p + 1) y k (λ f. omega arith) (λ f. omega arith) ∙ h .rest k (inr (omega arith))
+
+  pub pair-more : {after : List ℕ} → after ≡ set (set list p (y + 1)) (p + 1) y → Pairs d start number list × Kept d start before list → Pairs (d + 1) start number after × Kept (d + 1) start before after
+  pair-more e h = rw e (pairs-more (h .0), kept-more (h .1))
 
 -- the link of dart d and its vertex successor
 module _ (M start : ℕ) (vertex : ℕ → ℕ) (before list : List ℕ) (d p x q y : ℕ) (at-p : p ≡ start + (2 * d + 1)) (at-q : q ≡ start + 2 * vertex d) (is-x : x ≡ 2 * vertex d) (is-y : y ≡ 2 * d + 1)

@@ -5,8 +5,8 @@ use answers::Level;
 use answers::Refusal;
 ghost use mathlib.Core.Path.{_≡_};
 ghost use mathlib.Core.Bool.{false, _&&_};
-ghost use Prim.Native.Nat.{ℕ, _*_, _≤_, _<_};
-ghost use lib.ListN.{length};
+ghost use Prim.Native.Nat.{ℕ, _+_, _*_, _≤_, _<_};
+ghost use lib.ListN.{length, set};
 ghost use lib.Dec.{eqb};
 ghost use Rattle.maps.specs.Verdict.{_then_};
 ghost use Rattle.maps.specs.Sizes.{number4};
@@ -109,6 +109,15 @@ fn rows_refused(darts: u16, edges: &[u16], vertices: &[u16]) -> Check
     two_to_one(darts, vertices)
 }
 
+// A pair of entries: an even dart plus 1, then the even dart.
+fn put_pair(even: u16, place: usize, rows: &mut [u16])
+    requires { ⌜ (even < 65535) × (place + 1 < length (now rows)) ⌝ }
+    ensures { λ _. ⌜ now (rows .exit) ≡ set (set (now (rows .entry)) place (even + 1)) (place + 1) even ⌝ }
+{
+    rows[place] = even + 1;
+    rows[place + 1] = even;
+}
+
 // "a0 takes 2d to twice the edge partner plus 1, and 2d+1 to twice the edge partner."
 fn put_edges(darts: u16, edges: &[u16], rows: &mut [u16])
     requires { ⌜ Row darts (now edges) × (darts ≤ 2048) × (length (now rows) ≡ 6 * darts) ⌝ }
@@ -117,10 +126,7 @@ fn put_edges(darts: u16, edges: &[u16], rows: &mut [u16])
 {
     for d in 0..darts {
         let from = d as usize;
-        let place = 2 * from;
-        let twice = 2 * edges[from];
-        rows[place] = twice + 1;
-        rows[place + 1] = twice;
+        put_pair(2 * edges[from], 2 * from, rows);
     }
 }
 
@@ -150,10 +156,8 @@ fn put_sides(darts: u16, rows: &mut [u16])
 {
     let start = 4 * darts as usize;
     for d in 0..darts {
-        let twice = 2 * d;
-        let place = start + twice as usize;
-        rows[place] = twice + 1;
-        rows[place + 1] = twice;
+        let even = 2 * d;
+        put_pair(even, start + even as usize, rows);
     }
 }
 

@@ -1,83 +1,51 @@
 -- `partner::importing::put_edges` meets its contract. The invariant: the pairs of the darts passed are written, and no more; the measure is the darts that are left. Assumes nothing.
 use mathlib.Core.Path.{_≡_, refl}
-use Prim.Native.Nat.{ℕ, _+_, _-_, _*_, _≤_, zero-le}
+use Prim.Native.Nat.{_+_, _-_, _*_, _≤_, _<_, zero-le}
 use native.Mathlib.Omega.{arith}
+use lib.ListN.{length}
 use denote.Ref.{now}
 use borrow.Author.Count.{below-none}
-use borrow.Author.Needs.{needs, below-set}
+use borrow.Author.Needs.{needs}
 use Rattle.maps.specs.Table.{each}
 use Rattle.partner.specs.Rows.{Kept, Pairs}
-use Rattle.partner.proofs.Put.{kept-none, pairs-more, kept-more}
+use Rattle.partner.proofs.Put.{kept-none, pair-more}
 use Rattle.partner.proofs.importing.put_edges.Statement.{statement}
 use Rattle.partner.proofs.importing.put_edges.Tie as tie
 
 abbrev Inv-loop : tie.InvT-loop
-Inv-loop darts edges rows₀ d₀ rows d = (d ≤ darts) × Pairs d 0 (λ e. 2 * each edges e) rows × Kept d 0 rows₀ rows
+Inv-loop darts edges rows₀ d₀ rows d = (d ≤ darts) × (Pairs d 0 (λ e. 2 * each edges e) rows × Kept d 0 rows₀ rows)
 
 abbrev μ-loop : tie.MeasureT-loop
 μ-loop darts edges rows₀ d₀ rows d = darts - d
 
-loop-holds : tie.Need-loop-holds Inv-loop μ-loop
-loop-holds c = (zero-le, below-none _, kept-none 0 0 _)
+-- where it begins
+abbrev start : tie.At-loop Inv-loop μ-loop → tie.Start Inv-loop μ-loop
+start c = c .before .before .before
 
-cast-from : tie.Need-cast-from Inv-loop μ-loop
-cast-from c = search needs
+-- the edge partner is a dart, and the pair lies in the rows
+fits : (c : tie.In-loop Inv-loop μ-loop) → let l = c .before .loop in let a = start (c .before) .args in (2 * each (now (a .edges)) (l .d) < 65535) × (2 * l .d + 1 < length (l .rows))
+fits c =
+    let l = c .before .loop in
+    let s = start (c .before) in
+    let low = s .pre .0 .inside (l .d) (c .loop-test .taken) in
+    let long = l .inv .1 .1 .long in
+    (omega arith, omega arith)
 
-mul-place : tie.Need-mul-place Inv-loop μ-loop
-mul-place c = search needs
-
-mul-twice : tie.Need-mul-twice Inv-loop μ-loop
-mul-twice c = search needs
-
-shared-slice-read-twice : tie.Need-shared-slice-read-twice Inv-loop μ-loop
-shared-slice-read-twice c = search needs
-
--- the edge partner is a dart
-mul-twice-2 : tie.Need-mul-twice-2 Inv-loop μ-loop
-mul-twice-2 c = let low = c .before .before .before .pre .0 .inside (c .before .before .loop .d) (c .before .loop-test .taken) in search needs
-
-add-rows : tie.Need-add-rows Inv-loop μ-loop
-add-rows c = let low = c .before .before .before .pre .0 .inside (c .before .before .loop .d) (c .before .loop-test .taken) in search needs
-
-mul-rows : tie.Need-mul-rows Inv-loop μ-loop
-mul-rows c = let k = c .before .before .loop .inv .2 .long in search needs
-
-slice-write-rows : tie.Need-slice-write-rows Inv-loop μ-loop
-slice-write-rows c = let k = c .before .before .loop .inv .2 .long in search needs
-
-add-rows-2 : tie.Need-add-rows-2 Inv-loop μ-loop
-add-rows-2 c = search needs
-
-mul-rows-2 : tie.Need-mul-rows-2 Inv-loop μ-loop
-mul-rows-2 c = let k = c .before .before .loop .inv .2 .long in search needs
-
-slice-write-rows-2 : tie.Need-slice-write-rows-2 Inv-loop μ-loop
-slice-write-rows-2 c = let l = c .before .before .loop in let k = l .inv .2 .long in below-set ℕ (l .rows) (2 * l .d + 1) _ _ (omega arith)
-
-add-d : tie.Need-add-d Inv-loop μ-loop
-add-d c = search needs
-
-loop-less : tie.Need-loop-less Inv-loop μ-loop
-loop-less c = search needs
+put-pair-requires : tie.Need-put-pair-requires Inv-loop μ-loop
+put-pair-requires c κs = fits (c .before .before)
 
 loop-again : tie.Need-loop-again Inv-loop μ-loop
 loop-again c =
-    let l = c .before .before .loop in
-    let s = c .before .before .before in
-    let twice = 2 * each (now (s .args .edges)) (l .d) in
-    let number : ℕ → ℕ = λ e. 2 * each (now (s .args .edges)) e in
-    let long = l .inv .2 .long in
-    let before = now (s .args .rows) in
-    (omega arith, pairs-more 0 number before (l .rows) (l .d) (2 * l .d) (twice + 1) (2 * l .d + 1) twice (omega arith) refl refl refl (omega arith) (l .inv .1), kept-more 0 number before (l .rows) (l .d) (2 * l .d) (twice + 1) (2 * l .d + 1) twice (omega arith) refl refl refl (omega arith) (l .inv .2))
-
-same-length : tie.Need-same-length Inv-loop μ-loop
-same-length c = c .before .loop .inv .2 .long
+    let i : tie.In-loop Inv-loop μ-loop = c .before .before .before .before .before in
+    let l = i .before .loop in
+    let a = start (i .before) .args in
+    (omega arith, pair-more 0 (λ e. 2 * each (now (a .edges)) e) (now (a .rows)) (l .rows) (l .d) _ _ (omega arith) refl (fits i .1) (c .before .before .put-pair .ensures) (l .inv .1))
 
 returns : tie.Need-returns Inv-loop μ-loop
 returns c =
     let l = c .before .loop in
-    let all : l .d ≡ c .before .before .args .darts = omega arith in
-    (rw all at (l .inv .1), rw all at (l .inv .2))
+    let all : l .d ≡ start (c .before) .args .darts = omega arith in
+    rw all at (l .inv .1)
 
 pub put-edges-spec : {M : Type 1} → statement M
 put-edges-spec =
@@ -85,20 +53,15 @@ put-edges-spec =
     (tie.spec
     Inv-loop
     μ-loop
-    loop-holds
-    cast-from
-    mul-place
-    mul-twice
-    shared-slice-read-twice
-    mul-twice-2
-    add-rows
-    mul-rows
-    slice-write-rows
-    add-rows-2
-    mul-rows-2
-    slice-write-rows-2
-    add-d
-    loop-less
+    (λ c. (zero-le, (below-none _, kept-none 0 0 _)))
+    (λ c. search needs)
+    (λ c. search needs)
+    (λ c. search needs)
+    (λ c. let f = fits (c .before) in search needs)
+    (λ c. search needs)
+    put-pair-requires
+    (λ c. search needs)
+    (λ c. search needs)
     loop-again
-    same-length
+    (λ c. c .before .loop .inv .1 .1 .long)
     returns)
