@@ -9,9 +9,10 @@ use lib.ListN.{length, getD, set, drop, length-set, length-append, length-drop, 
 use lib.Seq.{getD-set-same, getD-set-other, getD-append-add, getD-drop, ext-getD}
 use lib.Dec.{eqb, ltb}
 use borrow.Author.Tests.{ltb-true, ltb-false, eqb-true, eqb-false}
+use Rattle.maps.specs.Record.{byte}
 use Rattle.maps.specs.Table.{listed}
 use Rattle.laws.proofs.Tables.{length-listed, getD-listed}
-use Rattle.records.specs.Parts.{Laid}
+use Rattle.records.specs.Parts.{byteFrom, Laid}
 
 pub laid-none : (value : ℕ → ℕ) (at : ℕ) (slice : List ℕ) → Laid value at 0 slice slice
 laid-none value at slice = record { long = refl; written = λ d l. absurd (omega arith); kept = λ x o. refl }
@@ -19,6 +20,10 @@ laid-none value at slice = record { long = refl; written = λ d l. absurd (omega
 -- other names for the same values
 pub laid-same : {value other : ℕ → ℕ} {at m : ℕ} {old new : List ℕ} → Laid value at m old new → ((d : ℕ) → d < m → value d ≡ other d) → Laid other at m old new
 laid-same s same = record { long = s .long; written = λ d l. s .written d l ∙ same d l; kept = s .kept }
+
+-- a whole list laid, whose values are known
+pub laid-whole : (list : List ℕ) {value : ℕ → ℕ} {at m : ℕ} {old new : List ℕ} → Laid (byteFrom list 0) at m old new → ((d : ℕ) → d < m → getD list d 0 ≡ value d) → Laid value at m old new
+laid-whole list s same = laid-same s (λ d l. ap (byte list) (omega arith) ∙ same d l)
 
 -- one value more
 pub laid-more : {value : ℕ → ℕ} {at m : ℕ} {old new : List ℕ} (place v : ℕ) → Laid value at m old new → place ≡ at + m → place < length new → v ≡ value m → Laid value at (m + 1) old (set new place v)

@@ -20,15 +20,23 @@ fn part_of(bytes: &[u8], from: usize) -> [u8; 128]
     part
 }
 
+// Bytes, one by one.
+pub fn copy_few_bytes(bytes: &[u8], from: usize, count: usize, to: &mut [u8], at: usize)
+    requires { ⌜ (from + count ≤ length (now bytes)) × (at + count ≤ length (now to)) ⌝ }
+    ensures { λ _. ⌜ Laid (byteFrom (now (bytes .entry)) from) at count (now (to .entry)) (now (to .exit)) ⌝ }
+{
+    for d in 0..count {
+        to[at + d] = bytes[from + d];
+    }
+}
+
 // One part of a body of bytes.
 fn copy_byte_part(bytes: &[u8], from: usize, to: &mut [u8], at: usize)
     requires { ⌜ (from + 128 ≤ length (now bytes)) × (at + 128 ≤ length (now to)) ⌝ }
     ensures { λ _. ⌜ Laid (byteFrom (now (bytes .entry)) from) at 128 (now (to .entry)) (now (to .exit)) ⌝ }
 {
     let part = part_of(bytes, from);
-    for d in 0..128usize {
-        to[at + d] = part[d];
-    }
+    copy_few_bytes(&part, 0, 128, to, at);
 }
 
 // One part of a row of two bytes an entry.
@@ -40,16 +48,6 @@ fn copy_entry_part(bytes: &[u8], from: usize, to: &mut [u16], at: usize)
     for d in 0..64usize {
         let low = 2 * d;
         to[at + d] = two_bytes(part[low], part[low + 1]);
-    }
-}
-
-// Bytes, one by one.
-fn copy_few_bytes(bytes: &[u8], from: usize, count: usize, to: &mut [u8], at: usize)
-    requires { ⌜ (from + count ≤ length (now bytes)) × (at + count ≤ length (now to)) ⌝ }
-    ensures { λ _. ⌜ Laid (byteFrom (now (bytes .entry)) from) at count (now (to .entry)) (now (to .exit)) ⌝ }
-{
-    for d in 0..count {
-        to[at + d] = bytes[from + d];
     }
 }
 

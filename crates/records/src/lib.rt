@@ -6,6 +6,7 @@ use answers::Dim;
 use answers::Level;
 use answers::Refusal;
 pub use copying::copy_bytes;
+pub use copying::copy_few_bytes;
 use copying::copy_narrow;
 use copying::copy_wide;
 ghost use mathlib.Core.Path.{_≡_};

@@ -53,9 +53,7 @@ fn put_part(row: &[u16], from: usize, to: &mut [u8], at: usize)
     ensures { λ _. ⌜ Laid (entryByte (now (row .entry)) from) at 128 (now (to .entry)) (now (to .exit)) ⌝ }
 {
     let part = bytes_of(row, from);
-    for k in 0..128usize {
-        to[at + k] = part[k];
-    }
+    records::copy_few_bytes(&part, 0, 128, to, at);
 }
 
 // Entries, one by one.
