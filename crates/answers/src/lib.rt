@@ -14,6 +14,7 @@ pub use tables::at;
 pub use tables::there;
 pub use tests::asked;
 pub use tests::both;
+pub use tests::entries;
 pub use tests::lent;
 pub use tests::pyramid_fits;
 pub use tests::row_fits;

@@ -44,11 +44,18 @@ pub fn both(first: bool, second: bool) -> bool
     false
 }
 
+// The entries of n+1 rows.
+pub fn entries(n: Dim, darts: u16) -> usize
+    ensures { λ r. ⌜ r ≡ suc (n .0) * darts ⌝ }
+{
+    (n.0 as usize + 1) * darts as usize
+}
+
 // Has a slice of n+1 rows the exact length?
 pub fn rows_fit(n: Dim, darts: u16, length: usize) -> bool
     ensures { λ r. ⌜ r ≡ eqb length (suc (n .0) * darts) ⌝ }
 {
-    length == (n.0 as usize + 1) * darts as usize
+    length == entries(n, darts)
 }
 
 // Has a slice of one number for each dart the exact length?

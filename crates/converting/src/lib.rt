@@ -31,7 +31,7 @@ fn write_front(
     ensures { λ _. ⌜ now (new .exit) ≡ writeLeaves (n .0) darts (h .0) (first (suc (n .0) * darts) (now (rows .entry))) (first darts (now (lambda .entry))) (first darts (now (delta .entry))) (first (suc (n .0) * darts) (now (table .entry))) (now (new .entry)) ⌝ }
 {
     let width = darts as usize;
-    let size = (n.0 as usize + 1) * width;
+    let size = answers::entries(n, darts);
     writing::write(
         n,
         darts,

@@ -105,7 +105,7 @@ fn main() {
         Taken::Refused(r) => programs::refuse(1, r),
         Taken::Record(n, h, darts) => {
             let width = darts as usize;
-            let size = programs::entries(n, darts);
+            let size = answers::entries(n, darts);
             print_pyramid(
                 n,
                 darts,

@@ -13,6 +13,7 @@ use Rattle.rebasing.specs.Answers.{rebasedOf}
 use Rattle.answers.proofs.sizes.Reads as sizes
 use Rattle.answers.proofs.both.Reads as both
 use Rattle.answers.proofs.row_fits.Reads as row-fits
+use Rattle.answers.proofs.entries.Reads as entries
 use Rattle.answers.proofs.rows_fit.Reads as rows-fit
 use Rattle.answers.proofs.pyramid_fits.Reads as pyramid-fits
 use Rattle.answers.proofs.lent.Reads as lent
@@ -185,6 +186,9 @@ both-one κs = one-outcome _ _ _ (λ a r. r) (λ r. r) (λ a r. refl) _ _ (λ a 
 
 pub row-fits-one : (κs : Lfts 0) → OneOutcome (row-fits.Learnt κs) (λ r. r) nothing
 row-fits-one κs = one-outcome _ _ _ (λ a r. r) (λ r. r) (λ a r. refl) _ _ (λ a r s c. (c, refl))
+
+pub entries-one : (κs : Lfts 0) → OneOutcome (entries.Learnt κs) (λ r. r) nothing
+entries-one κs = one-outcome _ _ _ (λ a r. r) (λ r. r) (λ a r. refl) _ _ (λ a r s c. (c, refl))
 
 pub rows-fit-one : (κs : Lfts 0) → OneOutcome (rows-fit.Learnt κs) (λ r. r) nothing
 rows-fit-one κs = one-outcome _ _ _ (λ a r. r) (λ r. r) (λ a r. refl) _ _ (λ a r s c. (c, refl))

@@ -220,7 +220,7 @@ fn long_enough(n: Dim, darts: u16, rows: usize, lambda: usize, delta: usize, tab
     ensures { λ r. ⌜ r ≡ (leb (suc (n .0) * darts) rows && (leb darts lambda && (leb darts delta && leb (suc (n .0) * darts) table))) ⌝ }
 {
     let due = darts as usize;
-    let all = (n.0 as usize + 1) * due;
+    let all = answers::entries(n, darts);
     let marks = answers::both(due <= delta, all <= table);
     let below = answers::both(due <= lambda, marks);
     answers::both(all <= rows, below)

@@ -13,7 +13,7 @@ use Rattle.maps.specs.Sizes.{sizes, number4}
 use Rattle.maps.specs.CheckPyramid.{checkLent, checkLeaves}
 use Rattle.maps.specs.Record.{Allowed, field, recordDimension, recordHeight, recordDarts, rowAt, rowTag, rowSize, lambdaAt, deltaAt, endAt, formed, recordRows, recordLambda, recordDelta, recordLent, takeLent, takeRows, takeLambda, takeDelta, takeTable}
 use Rattle.laws.proofs.Verdicts.{then-accepted, and-both}
-use Rattle.laws.proofs.Tables.{length-listed}
+use Rattle.laws.proofs.Tables.{length-listed, table-size}
 use Rattle.laws.proofs.Sizes.{Sized, sizes-sized, lengths-exact}
 use Rattle.answers.specs.Numbers.{refusalOf}
 use Rattle.answers.specs.declared.Refusal.{Refusal}
@@ -172,8 +172,8 @@ module _ (b : List ℕ) (allowed : Allowed) (rows lambda delta table : List ℕ)
             let f : takeLent b allowed rows lambda delta table ≡ accepted = sym (accepted-both _ lent checks tests (sym fine) (v ∙ check-is)) in
             (rw (f, dimension-is, height-is, darts-is), table-left)
 
--- n and N of a record that is taken are in range
-pub taken-sized : {n h N : ℕ} (b : List ℕ) (allowed : Allowed) (rows lambda delta table : List ℕ) → saying accepted n h N ≡ taken b allowed rows lambda delta table → (n ≤ 4) × (N ≤ 4096)
+-- N of a record that is taken, and its entries, are in range
+pub taken-sized : {n h N : ℕ} (b : List ℕ) (allowed : Allowed) (rows lambda delta table : List ℕ) → saying accepted n h N ≡ taken b allowed rows lambda delta table → (N ≤ 4096) × (suc n * N ≤ 20480)
 taken-sized {n} {h} {N} b allowed rows lambda delta table e =
     let v : takeLent b allowed rows lambda delta table ≡ accepted = sym (ap (λ (o : Outcome). o .verdict) e) in
     let s = fits b allowed rows lambda delta table (taken-both b allowed rows lambda delta table v .0) .sized in
@@ -181,4 +181,4 @@ taken-sized {n} {h} {N} b allowed rows lambda delta table e =
     let y : N ≡ ifAccepted (takeLent b allowed rows lambda delta table) (recordDarts b) 0 = ap (λ (o : Outcome). o .darts) e in
     let dimension-is : n ≡ recordDimension b = rw v at x in
     let darts-are : N ≡ recordDarts b = rw v at y in
-    (rw dimension-is (s .dimension), rw darts-are (s .darts))
+    (rw darts-are (s .darts), rw (dimension-is, darts-are) (table-size _ _ 0 (s .dimension) (s .darts) (omega arith) .1))

@@ -29,7 +29,7 @@ fn check_front(
     ensures { λ _. ⌜ now (table .exit) ≡ checkLeaves (n .0) darts (h .0) (first (suc (n .0) * darts) (now (rows .entry))) (first darts (now (lambda .entry))) (first darts (now (delta .entry))) (first (suc (n .0) * darts) (now (table .entry))) ++ drop (suc (n .0) * darts) (now (table .entry)) ⌝ }
 {
     let width = darts as usize;
-    let size = (n.0 as usize + 1) * width;
+    let size = answers::entries(n, darts);
     checking::check(
         n,
         darts,

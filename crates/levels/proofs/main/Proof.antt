@@ -1,6 +1,6 @@
 -- `levels::main` meets its contract: the sizes of a record that was taken are in range, so that its pyramid lies in the arrays. Assumes nothing.
 use mathlib.Core.Path.{sym, ap, _∙_}
-use Prim.Native.Nat.{_≤_}
+use Prim.Native.Nat.{suc, _*_, _≤_}
 use lib.Seq.{length-take-le}
 use borrow.Author.Needs.{needs}
 use Rattle.records.specs.Answers.{takenOf}
@@ -8,17 +8,20 @@ use Rattle.taking.proofs.Joined.{taken-sized}
 use Rattle.levels.proofs.main.Statement.{statement}
 use Rattle.levels.proofs.main.Tie as tie
 
--- n and N, from where they are known
-sized : (c : tie.After-n) → (c .n .given .0 .0 .0 ≤ 4) × (c .n .given .0 .1 .1 .0 ≤ 4096)
+-- N and the entries, from where n and N are known
+sized : (c : tie.After-n) → let N = c .n .given .0 .1 .1 .0 in (N ≤ 4096) × (suc (c .n .given .0 .0 .0) * N ≤ 20480)
 sized c =
     let t : tie.After-take = c .before .before .before .before .before .before in
     taken-sized _ _ _ _ _ _ (sym (ap takenOf (c .n .given .1)) ∙ t .take .ensures .0)
 
-entries-requires : tie.Need-entries-requires
-entries-requires c κs = sized (c .before)
+few : (c : tie.After-entries) → c .entries .result ≤ 20480
+few c = rw (c .entries .ensures) (sized (c .before .before) .1)
+
+array-share-prefix-rows : tie.Need-array-share-prefix-rows
+array-share-prefix-rows c = let m = few c in search needs
 
 slice-aggregate-print-pyramid : tie.Need-slice-aggregate-print-pyramid
-slice-aggregate-print-pyramid c = sym (length-take-le _ _ (search needs))
+slice-aggregate-print-pyramid c = sym (length-take-le _ _ (array-share-prefix-rows (c .before)))
 
 array-share-prefix-lambda : tie.Need-array-share-prefix-lambda
 array-share-prefix-lambda c = let s = sized (c .before .before .before) in search needs
@@ -32,8 +35,11 @@ array-share-prefix-delta c = let s = sized (c .before .before .before .before) i
 slice-aggregate-print-pyramid-3 : tie.Need-slice-aggregate-print-pyramid-3
 slice-aggregate-print-pyramid-3 c = sym (length-take-le _ _ (array-share-prefix-delta (c .before)))
 
+array-borrow-prefix-table : tie.Need-array-borrow-prefix-table
+array-borrow-prefix-table c = let m = few (c .before .before .before) in search needs
+
 slice-aggregate-print-pyramid-4 : tie.Need-slice-aggregate-print-pyramid-4
-slice-aggregate-print-pyramid-4 c = sym (length-take-le _ _ (search needs))
+slice-aggregate-print-pyramid-4 c = sym (length-take-le _ _ (array-borrow-prefix-table (c .before)))
 
 pub main-spec : {M : Type 1} → statement M
 main-spec =
@@ -53,14 +59,14 @@ main-spec =
     (λ c κs. search needs)
     (λ c. search needs)
     (λ c. search needs)
-    entries-requires
-    (λ c. search needs)
+    (λ c κs. search needs)
+    array-share-prefix-rows
     slice-aggregate-print-pyramid
     array-share-prefix-lambda
     slice-aggregate-print-pyramid-2
     array-share-prefix-delta
     slice-aggregate-print-pyramid-3
-    (λ c. search needs)
+    array-borrow-prefix-table
     slice-aggregate-print-pyramid-4
     (λ c κs. search needs)
     (λ c. search needs)

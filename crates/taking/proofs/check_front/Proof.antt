@@ -1,9 +1,8 @@
 -- `taking::check_front` meets its contract: the parts that are handed on lie in the slices. Assumes nothing.
-use mathlib.Core.Path.{sym, ap, _∙_}
+use mathlib.Core.Path.{_≡_, sym, ap, _∙_}
 use mathlib.Core.List.{List, _++_}
-use Prim.Native.Nat.{ℕ, suc, _+_, _*_, _≤_}
-use native.Mathlib.Numerals.{add-one}
-use lib.ListN.{take, drop}
+use Prim.Native.Nat.{ℕ, suc, _*_, _≤_}
+use lib.ListN.{length, take, drop}
 use lib.Seq.{length-take-le}
 use denote.Ref.{now}
 use borrow.Author.Needs.{needs}
@@ -12,15 +11,15 @@ use Rattle.taking.proofs.check_front.Statement.{statement}
 use Rattle.taking.proofs.check_front.Tie as tie
 
 -- where it begins
-abbrev start : tie.After-struct-known → tie.Start
+abbrev start : tie.After-entries → tie.Start
 start c = c .before .before .before .before .before
 
--- (n+1)N entries lie in a slice in which the contract's as many do
-reach : (n N : ℕ) {m : ℕ} → suc n * N ≤ m → (n + 1) * N ≤ m
-reach n N l = rw (add-one n) l
+-- the entries lie in a slice in which the contract's as many do
+front : (c : tie.After-entries) (list : List ℕ) → suc (start c .args .n .0) * start c .args .darts ≤ length list → c .entries .result ≡ length (take (c .entries .result) list)
+front c list l = sym (length-take-le (c .entries .result) list (rw (c .entries .ensures) l))
 
 slice-aggregate-check : tie.Need-slice-aggregate-check
-slice-aggregate-check c = let s = start (c .before) in sym (length-take-le ((s .args .n .0 + 1) * s .args .darts) (s .args .rows .now) (reach (s .args .n .0) (s .args .darts) (s .pre .2)))
+slice-aggregate-check c = let s = start (c .before) in front (c .before) (s .args .rows .now) (s .pre .2)
 
 slice-aggregate-check-2 : tie.Need-slice-aggregate-check-2
 slice-aggregate-check-2 c = let s = start (c .before .before) in sym (length-take-le (s .args .darts) (s .args .lambda .now) (s .pre .3))
@@ -29,30 +28,28 @@ slice-aggregate-check-3 : tie.Need-slice-aggregate-check-3
 slice-aggregate-check-3 c = let s = start (c .before .before .before) in sym (length-take-le (s .args .darts) (s .args .delta .now) (s .pre .4))
 
 slice-aggregate-check-4 : tie.Need-slice-aggregate-check-4
-slice-aggregate-check-4 c = let s = start (c .before .before .before .before) in sym (length-take-le ((s .args .n .0 + 1) * s .args .darts) (s .args .table .now) (reach (s .args .n .0) (s .args .darts) (s .pre .5)))
+slice-aggregate-check-4 c = let k = c .before .before .before .before in front k (start k .args .table .now) (start k .pre .5)
 
 returns : tie.Need-returns
 returns c =
     let k : tie.After-check = c .before .before in
-    let a = start (k .before .before .before .before .before) .args in
+    let z : tie.After-entries = k .before .before .before .before .before in
+    let a = start z .args in
     let e = k .check .ensures in
     let R = now (a .rows) in
     let L = take (a .darts) (now (a .lambda)) in
     let D = take (a .darts) (now (a .delta)) in
     let T = now (a .table) in
-    let same = add-one (a .n .0) in (
-      e .0 ∙ ap (λ (m : ℕ). checkLent (a .n .0) (a .darts) (a .h .0) (take (m * a .darts) R) L D (take (m * a .darts) T)) same,
-      ap (λ (x : List ℕ). x ++ drop ((a .n .0 + 1) * a .darts) T) (e .1)
-          ∙ ap (λ (m : ℕ). checkLeaves (a .n .0) (a .darts) (a .h .0) (take (m * a .darts) R) L D (take (m * a .darts) T) ++ drop (m * a .darts) T) same,
+    let same = z .entries .ensures in (
+      e .0 ∙ ap (λ (m : ℕ). checkLent (a .n .0) (a .darts) (a .h .0) (take m R) L D (take m T)) same,
+      ap (λ (x : List ℕ). x ++ drop (z .entries .result) T) (e .1) ∙ ap (λ (m : ℕ). checkLeaves (a .n .0) (a .darts) (a .h .0) (take m R) L D (take m T) ++ drop m T) same,
     )
 
 pub check-front-spec : {M : Type 1} → statement M
 check-front-spec =
     tie.close
     (tie.spec
-    (λ c. search needs)
-    (λ c. search needs)
-    (λ c. search needs)
+    (λ c κs. search needs)
     slice-aggregate-check
     slice-aggregate-check-2
     slice-aggregate-check-3
