@@ -22,21 +22,6 @@ abbrev μ-loop : tie.MeasureT-loop
 loop-holds : tie.Need-loop-holds Inv-loop μ-loop
 loop-holds c = (refl, zero-le, λ e. below-none _)
 
-shared-slice-read-t11 : tie.Need-shared-slice-read-t11 Inv-loop μ-loop
-shared-slice-read-t11 c = search needs
-
-shared-slice-read-t14 : tie.Need-shared-slice-read-t14 Inv-loop μ-loop
-shared-slice-read-t14 c = search needs
-
-mark-refused-requires : tie.Need-mark-refused-requires Inv-loop μ-loop
-mark-refused-requires c κs = search needs
-
-add-at : tie.Need-add-at Inv-loop μ-loop
-add-at c = search needs
-
-loop-less : tie.Need-loop-less Inv-loop μ-loop
-loop-less c = search needs
-
 loop-again : tie.Need-loop-again Inv-loop μ-loop
 loop-again c =
     let l = c .before .before .before .before .loop in
@@ -52,10 +37,10 @@ any-refused-spec =
     Inv-loop
     μ-loop
     loop-holds
-    shared-slice-read-t11
-    shared-slice-read-t14
-    mark-refused-requires
-    add-at
-    loop-less
+    (λ c. search needs)
+    (λ c. search needs)
+    (λ c κs. search needs)
+    (λ c. search needs)
+    (λ c. search needs)
     loop-again
     returns)

@@ -18,18 +18,6 @@ abbrev μ-loop : tie.MeasureT-loop
 loop-holds : tie.Need-loop-holds Inv-loop μ-loop
 loop-holds c = (zero-le, row-none _ _)
 
-shared-slice-read-copied : tie.Need-shared-slice-read-copied Inv-loop μ-loop
-shared-slice-read-copied c = search needs
-
-slice-write-copied : tie.Need-slice-write-copied Inv-loop μ-loop
-slice-write-copied c = search needs
-
-add-k : tie.Need-add-k Inv-loop μ-loop
-add-k c = search needs
-
-loop-less : tie.Need-loop-less Inv-loop μ-loop
-loop-less c = search needs
-
 loop-again : tie.Need-loop-again Inv-loop μ-loop
 loop-again c = (omega arith, row-set (c .before .before .loop .inv .1) (omega arith) _ refl)
 
@@ -46,10 +34,10 @@ copy-row-spec =
     Inv-loop
     μ-loop
     loop-holds
-    shared-slice-read-copied
-    slice-write-copied
-    add-k
-    loop-less
+    (λ c. search needs)
+    (λ c. search needs)
+    (λ c. search needs)
+    (λ c. search needs)
     loop-again
     same-length
     returns)
