@@ -2,6 +2,7 @@
 use answers::Check;
 use answers::Dim;
 use answers::Level;
+use kernels::Kernel;
 ghost use mathlib.Core.Path.{_≡_};
 ghost use Prim.Native.Nat.{_≤_};
 ghost use lib.ListN.{length};
@@ -57,16 +58,13 @@ pub fn climb_to(
     let top = level.0;
     for l in 0..top {
         let first = head[l as usize];
-        if let Check::Refused(r) = kernels::step(
+        let kernel = Kernel {
             n,
-            darts,
-            Level(l),
-            lambda,
-            delta,
-            &next,
+            darts: darts as u16,
+            level: Level(l),
             first,
-            table,
-        ) {
+        };
+        if let Check::Refused(r) = kernels::step(kernel, lambda, delta, &next, table) {
             return Check::Refused(r);
         }
     }

@@ -17,28 +17,33 @@ ghost use Rattle.answers.specs.Numbers.{verdictOf};
 ghost use Rattle.kernels.specs.Strings.{kernelRow, Strung};
 ghost use Rattle.kernels.specs.Ready.{Tested, stepLeaves};
 
-// Kernel l: tested, and removed where it is accepted.
+// A kernel of a map of so many darts and n: the first dart of its string, and its level. The darts are narrow and come first: it is passed in one register then, and N is read with no shift.
+pub struct Kernel {
+    pub darts: u16,
+    pub n: Dim,
+    pub first: u16,
+    pub level: Level,
+}
+
+// The kernel: tested, and removed where it is accepted.
 pub fn step(
-    n: Dim,
-    darts: usize,
-    l: Level,
+    kernel: Kernel,
     lambda: &[u8],
     delta: &[u8],
     next: &[u16; 4096],
-    first: u16,
     table: &mut [u16],
 ) -> Check
-    requires { ⌜ Tested (n .0) darts (kernelRow (now lambda) (now delta) (l .0)) (now table) ⌝ }
-    requires { ⌜ Strung (n .0) darts (l .0) first (now lambda) (now delta) (now next) ⌝ }
-    ensures { λ r. ⌜ verdictOf r ≡ checkKernel (entry darts (now (table .entry))) (n .0) darts (kernelRow (now (lambda .entry)) (now (delta .entry)) (l .0)) (l .0) ⌝ }
-    ensures { λ _. ⌜ now (table .exit) ≡ stepLeaves (n .0) darts (l .0) (kernelRow (now (lambda .entry)) (now (delta .entry)) (l .0)) (now (table .entry)) ⌝ }
+    requires { ⌜ Tested (kernel .n .0) (kernel .darts) (kernelRow (now lambda) (now delta) (kernel .level .0)) (now table) ⌝ }
+    requires { ⌜ Strung (kernel .n .0) (kernel .darts) (kernel .level .0) (kernel .first) (now lambda) (now delta) (now next) ⌝ }
+    ensures { λ r. ⌜ verdictOf r ≡ checkKernel (entry (kernel .darts) (now (table .entry))) (kernel .n .0) (kernel .darts) (kernelRow (now (lambda .entry)) (now (delta .entry)) (kernel .level .0)) (kernel .level .0) ⌝ }
+    ensures { λ _. ⌜ now (table .exit) ≡ stepLeaves (kernel .n .0) (kernel .darts) (kernel .level .0) (kernelRow (now (lambda .entry)) (now (delta .entry)) (kernel .level .0)) (now (table .entry)) ⌝ }
 {
-    if let Check::Refused(r) = whole(n, darts, l, lambda, delta, next, first, table) {
+    if let Check::Refused(r) = whole(kernel, lambda, delta, next, table) {
         return Check::Refused(r);
     }
-    if let Check::Refused(r) = fitting(n, darts, l, lambda, delta, next, first, table) {
+    if let Check::Refused(r) = fitting(kernel, lambda, delta, next, table) {
         return Check::Refused(r);
     }
-    remove(n, darts, l, lambda, delta, next, first, table);
+    remove(kernel, lambda, delta, next, table);
     Check::Accepted
 }

@@ -1,4 +1,5 @@
 // One kernel removed in place: survivors' entries are rewritten while the entries of the kernel's darts still stand, and these become 65,535 when all walks have ended.
+use super::Kernel;
 use super::strings::at;
 use super::strings::mark_of;
 use super::strings::next_of;
@@ -33,7 +34,13 @@ fn join(darts: usize, i: Dim, b: usize, e: usize, table: &mut [u16])
     put(darts, i, e, b as u16, table);
 }
 
-// From dart start, while there is a dart of kernel l whose mark has the first row i, as that of start has: on by the second row of that mark, then by row i. The rows of a mark are found anew only where it changes.
+// Where following starts: a dart, and the first row of its mark.
+struct Start {
+    row: Dim,
+    dart: usize,
+}
+
+// From the start, while there is a dart of kernel l whose mark has the first row that the start's has: on by the second row of that mark, then by the first. The rows of a mark are found anew only where it changes.
 fn follow(
     n: Dim,
     darts: usize,
@@ -41,17 +48,17 @@ fn follow(
     lambda: &[u8],
     delta: &[u8],
     table: &[u16],
-    i: Dim,
-    start: usize,
+    start: Start,
 ) -> usize
     requires { ⌜ Marks (n .0) darts (l .0) (now lambda) (now delta) × Followed (n .0) darts (kernelRow (now lambda) (now delta) (l .0)) (now table) ⌝ }
-    requires { ⌜ (i .0 ≤ n .0) × (start < darts) × (each (now lambda) start ≡ l .0) × (betweenOf (each (now delta) start) .0 ≡ i .0) ⌝ }
-    ensures { λ r. ⌜ (r ≡ goOn (entry darts (now (table .entry))) (n .0) (kernelRow (now (lambda .entry)) (now (delta .entry)) (l .0)) darts (i .0) start) × (r < darts) ⌝ }
+    requires { ⌜ (start .row .0 ≤ n .0) × (start .dart < darts) × (each (now lambda) (start .dart) ≡ l .0) × (betweenOf (each (now delta) (start .dart)) .0 ≡ start .row .0) ⌝ }
+    ensures { λ r. ⌜ (r ≡ goOn (entry darts (now (table .entry))) (n .0) (kernelRow (now (lambda .entry)) (now (delta .entry)) (l .0)) darts (start .row .0) (start .dart)) × (r < darts) ⌝ }
 {
-    let mut mark = mark_of(delta, start);
+    let i = start.row;
+    let mut mark = mark_of(delta, start.dart);
     let mut rows = answers::between(mark);
     let mut times = darts;
-    let mut e = start;
+    let mut e = start.dart;
     while 0 < times {
         e = at(darts, table, i, at(darts, table, rows.1, e));
         times = times - 1;
@@ -72,29 +79,30 @@ fn follow(
 
 // Survivors relinked, from the darts of kernel l: where one leads to a survivor by its mark's first row, the survivor is linked to the one past the marks. A survivor that no longer leads back has its link from the other end. The answer is how many links were followed.
 fn relink(
-    n: Dim,
-    darts: usize,
-    l: Level,
+    kernel: Kernel,
     lambda: &[u8],
     delta: &[u8],
     next: &[u16; 4096],
-    first: u16,
     table: &mut [u16],
 ) -> usize
-    requires { ⌜ Ready (n .0) darts (kernelRow (now lambda) (now delta) (l .0)) (now table) ⌝ }
-    requires { ⌜ Strung (n .0) darts (l .0) first (now lambda) (now delta) (now next) ⌝ }
-    ensures { λ r. ⌜ r ≡ linksMade (n .0) darts (kernelRow (now (lambda .entry)) (now (delta .entry)) (l .0)) (now (table .entry)) ⌝ }
-    ensures { λ _. ⌜ TableIs darts (relinked (n .0) darts (kernelRow (now (lambda .entry)) (now (delta .entry)) (l .0)) (now (table .entry))) (now (table .entry)) (now (table .exit)) ⌝ }
+    requires { ⌜ Ready (kernel .n .0) (kernel .darts) (kernelRow (now lambda) (now delta) (kernel .level .0)) (now table) ⌝ }
+    requires { ⌜ Strung (kernel .n .0) (kernel .darts) (kernel .level .0) (kernel .first) (now lambda) (now delta) (now next) ⌝ }
+    ensures { λ r. ⌜ r ≡ linksMade (kernel .n .0) (kernel .darts) (kernelRow (now (lambda .entry)) (now (delta .entry)) (kernel .level .0)) (now (table .entry)) ⌝ }
+    ensures { λ _. ⌜ TableIs (kernel .darts) (relinked (kernel .n .0) (kernel .darts) (kernelRow (now (lambda .entry)) (now (delta .entry)) (kernel .level .0)) (now (table .entry))) (now (table .entry)) (now (table .exit)) ⌝ }
 {
+    let n = kernel.n;
+    let darts = kernel.darts as usize;
+    let l = kernel.level;
     let mut links = 0;
-    let mut d = first as usize;
+    let mut d = kernel.first as usize;
     while d < darts {
         let rows = answers::between(mark_of(delta, d));
         let i = rows.0;
         let b = at(darts, table, i, d);
         if !removed(lambda, l, b) {
             if at(darts, table, i, b) == d {
-                let end = follow(n, darts, l, lambda, delta, table, i, d);
+                let start = Start { row: i, dart: d };
+                let end = follow(n, darts, l, lambda, delta, table, start);
                 join(darts, i, b, end, table);
                 links = links + 1;
             }
@@ -127,20 +135,12 @@ fn clear(n: Dim, darts: usize, next: &[u16; 4096], first: u16, table: &mut [u16]
 }
 
 // The kernel removed in place.
-pub fn remove(
-    n: Dim,
-    darts: usize,
-    l: Level,
-    lambda: &[u8],
-    delta: &[u8],
-    next: &[u16; 4096],
-    first: u16,
-    table: &mut [u16],
-)
-    requires { ⌜ Ready (n .0) darts (kernelRow (now lambda) (now delta) (l .0)) (now table) ⌝ }
-    requires { ⌜ Strung (n .0) darts (l .0) first (now lambda) (now delta) (now next) ⌝ }
-    ensures { λ _. ⌜ now (table .exit) ≡ removedFrom (n .0) darts (kernelRow (now (lambda .entry)) (now (delta .entry)) (l .0)) (now (table .entry)) ⌝ }
+pub fn remove(kernel: Kernel, lambda: &[u8], delta: &[u8], next: &[u16; 4096], table: &mut [u16])
+    requires { ⌜ Ready (kernel .n .0) (kernel .darts) (kernelRow (now lambda) (now delta) (kernel .level .0)) (now table) ⌝ }
+    requires { ⌜ Strung (kernel .n .0) (kernel .darts) (kernel .level .0) (kernel .first) (now lambda) (now delta) (now next) ⌝ }
+    ensures { λ _. ⌜ now (table .exit) ≡ removedFrom (kernel .n .0) (kernel .darts) (kernelRow (now (lambda .entry)) (now (delta .entry)) (kernel .level .0)) (now (table .entry)) ⌝ }
 {
-    relink(n, darts, l, lambda, delta, next, first, table);
-    clear(n, darts, next, first, table);
+    relink(kernel, lambda, delta, next, table);
+    let n = kernel.n;
+    clear(n, kernel.darts as usize, next, kernel.first, table);
 }

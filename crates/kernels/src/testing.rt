@@ -1,4 +1,5 @@
 // Numbers 9 and 10 of one kernel, on an explicit level. The first place found is the one reported.
+use super::Kernel;
 use super::strings::at;
 use super::strings::in_kernel;
 use super::strings::mark_of;
@@ -20,49 +21,59 @@ ghost use Rattle.answers.specs.Numbers.{verdictOf};
 ghost use Rattle.kernels.specs.Strings.{kernelRow, Strung};
 ghost use Rattle.kernels.specs.Ready.{Shape, Place, Tested};
 
-// Number 9 at one place: does involution j, which is not the mark's first row, lead from dart d to one that is not in kernel l with its mark?
+// A dart of a kernel, and its mark there.
+struct Marked {
+    dart: usize,
+    mark: Mark,
+}
+
+// Number 9 at one place: does involution j, which is not the mark's first row, lead from the marked dart to one that is not in the kernel with its mark?
 fn leaving(
-    darts: usize,
-    l: Level,
+    kernel: Kernel,
     lambda: &[u8],
     delta: &[u8],
     table: &[u16],
-    mark: Mark,
-    d: usize,
+    marked: Marked,
     j: Dim,
 ) -> bool
-    requires { ⌜ Place darts (now table) (j .0) d × (mark .0 < stay) ⌝ }
-    requires { ⌜ (entry darts (now table) (j .0) d < length (now lambda)) × (entry darts (now table) (j .0) d < length (now delta)) ⌝ }
-    ensures { λ r. ⌜ r ≡ (not (eqb (j .0) (betweenOf (mark .0) .0)) && not (eqb (kernelRow (now (lambda .entry)) (now (delta .entry)) (l .0) (entry darts (now (table .entry)) (j .0) d)) (mark .0))) ⌝ }
+    requires { ⌜ Place (kernel .darts) (now table) (j .0) (marked .dart) × (marked .mark .0 < stay) ⌝ }
+    requires { ⌜ (entry (kernel .darts) (now table) (j .0) (marked .dart) < length (now lambda)) × (entry (kernel .darts) (now table) (j .0) (marked .dart) < length (now delta)) ⌝ }
+    ensures { λ r. ⌜ r ≡ (not (eqb (j .0) (betweenOf (marked .mark .0) .0)) && not (eqb (kernelRow (now (lambda .entry)) (now (delta .entry)) (kernel .level .0) (entry (kernel .darts) (now (table .entry)) (j .0) (marked .dart))) (marked .mark .0))) ⌝ }
 {
+    let mark = marked.mark;
     let rows = answers::between(mark);
     if j.0 == rows.0.0 {
         return false;
     }
-    !in_kernel(lambda, delta, l, mark, at(darts, table, j, d))
+    let l = kernel.level;
+    let e = at(kernel.darts as usize, table, j, marked.dart);
+    !in_kernel(lambda, delta, l, mark, e)
 }
 
 // Number 9: the first dart of the kernel from which an involution leaves it, and that involution.
 pub fn whole(
-    n: Dim,
-    darts: usize,
-    l: Level,
+    kernel: Kernel,
     lambda: &[u8],
     delta: &[u8],
     next: &[u16; 4096],
-    first: u16,
     table: &[u16],
 ) -> Check
-    requires { ⌜ Tested (n .0) darts (kernelRow (now lambda) (now delta) (l .0)) (now table) ⌝ }
-    requires { ⌜ Strung (n .0) darts (l .0) first (now lambda) (now delta) (now next) ⌝ }
-    ensures { λ r. ⌜ verdictOf r ≡ check9 (entry darts (now (table .entry))) (n .0) darts (kernelRow (now (lambda .entry)) (now (delta .entry)) (l .0)) (l .0) ⌝ }
+    requires { ⌜ Tested (kernel .n .0) (kernel .darts) (kernelRow (now lambda) (now delta) (kernel .level .0)) (now table) ⌝ }
+    requires { ⌜ Strung (kernel .n .0) (kernel .darts) (kernel .level .0) (kernel .first) (now lambda) (now delta) (now next) ⌝ }
+    ensures { λ r. ⌜ verdictOf r ≡ check9 (entry (kernel .darts) (now (table .entry))) (kernel .n .0) (kernel .darts) (kernelRow (now (lambda .entry)) (now (delta .entry)) (kernel .level .0)) (kernel .level .0) ⌝ }
 {
+    let n = kernel.n;
+    let darts = kernel.darts as usize;
+    let l = kernel.level;
     let mut found = Check::Accepted;
-    let mut d = first as usize;
+    let mut d = kernel.first as usize;
     'darts: while d < darts {
-        let mark = mark_of(delta, d);
+        let marked = Marked {
+            dart: d,
+            mark: mark_of(delta, d),
+        };
         for j in 0..n.0 + 1 {
-            if leaving(darts, l, lambda, delta, table, mark, d, Dim(j)) {
+            if leaving(kernel, lambda, delta, table, marked, Dim(j)) {
                 found = Check::Refused(Refusal::NotWhole(l, Dim(j), d as u16));
                 break 'darts;
             }
@@ -90,22 +101,22 @@ fn commuting(n: Dim, darts: usize, table: &[u16], mark: Mark, d: usize) -> bool
 
 // Number 10: the first dart of the kernel whose own commuting test fails. Whether a mark has a row beyond is found anew only where it changes.
 pub fn fitting(
-    n: Dim,
-    darts: usize,
-    l: Level,
+    kernel: Kernel,
     lambda: &[u8],
     delta: &[u8],
     next: &[u16; 4096],
-    first: u16,
     table: &[u16],
 ) -> Check
-    requires { ⌜ Tested (n .0) darts (kernelRow (now lambda) (now delta) (l .0)) (now table) ⌝ }
-    requires { ⌜ Strung (n .0) darts (l .0) first (now lambda) (now delta) (now next) ⌝ }
-    ensures { λ r. ⌜ verdictOf r ≡ check10 (entry darts (now (table .entry))) (n .0) darts (kernelRow (now (lambda .entry)) (now (delta .entry)) (l .0)) (l .0) ⌝ }
+    requires { ⌜ Tested (kernel .n .0) (kernel .darts) (kernelRow (now lambda) (now delta) (kernel .level .0)) (now table) ⌝ }
+    requires { ⌜ Strung (kernel .n .0) (kernel .darts) (kernel .level .0) (kernel .first) (now lambda) (now delta) (now next) ⌝ }
+    ensures { λ r. ⌜ verdictOf r ≡ check10 (entry (kernel .darts) (now (table .entry))) (kernel .n .0) (kernel .darts) (kernelRow (now (lambda .entry)) (now (delta .entry)) (kernel .level .0)) (kernel .level .0) ⌝ }
 {
+    let n = kernel.n;
+    let darts = kernel.darts as usize;
+    let l = kernel.level;
     let mut mark = Mark(255);
     let mut tested = answers::has_beyond(n, mark);
-    let mut d = first as usize;
+    let mut d = kernel.first as usize;
     while d < darts {
         let met = mark_of(delta, d);
         if met.0 != mark.0 {

@@ -13,7 +13,7 @@ use Rattle.maps.specs.Folded.{refusedMarks}
 use Rattle.maps.specs.Walk.{Walked}
 use Rattle.maps.specs.ByLevels.{readBase, readLevel}
 use Rattle.answers.specs.declared.Dim.{Dim}
-use Rattle.levelwise.specs.declared.Sizes.{Sizes}
+use Rattle.questions.specs.declared.Sizes.{Sizes}
 use Rattle.levelwise.specs.declared.Place.{Place}
 use Rattle.levelwise.specs.declared.Stop.{Stop}
 use Rattle.levelwise.specs.declared.Stop.the-variants.{TooLong, Strays, Marks, NoPass}

@@ -10,7 +10,7 @@ use Rattle.maps.specs.Folded.{refusedMarks}
 use Rattle.maps.specs.Walk.{Walked, ended, stopped}
 use Rattle.maps.specs.ByLevels.{readLevel}
 use Rattle.questions.specs.Lent.{Lent}
-use Rattle.levelwise.specs.declared.Sizes.{Sizes}
+use Rattle.questions.specs.declared.Sizes.{Sizes}
 use Rattle.levelwise.specs.declared.Place.{Place}
 use Rattle.levelwise.specs.declared.Stop.{Stop}
 use Rattle.levelwise.specs.declared.Stop.the-variants.{TooLong, Strays, Marks, NoPass}

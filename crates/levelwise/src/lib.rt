@@ -7,18 +7,12 @@ use answers::Question;
 use answers::Refusal;
 use questions::Neighbour;
 use questions::Reading;
+use questions::Sizes;
 ghost use mathlib.Core.Path.{_≡_};
 ghost use Prim.Native.Nat.{_<_};
 ghost use Rattle.maps.specs.Read.{readingOf, readLentByLevels};
 ghost use Rattle.questions.specs.Answers.{valueOf};
 ghost use Rattle.levelwise.specs.Ends.{walkedOf, Asked, Reads, Meets, Passes};
-
-// n, h and N of the pyramid lent.
-struct Sizes {
-    n: Dim,
-    h: Level,
-    darts: u16,
-}
 
 // A row of a dart, and the number of base entries read so far: the row to read next, or the row read last where the dart was met.
 struct Place {
@@ -184,10 +178,10 @@ pub fn read_by_levels(
         involution,
         dart,
     };
-    if let Check::Refused(r) = questions::question(n, darts, h, rows, lambda, delta, asked) {
+    let sizes = Sizes { n, h, darts };
+    if let Check::Refused(r) = questions::question(sizes, rows, lambda, delta, asked) {
         return Reading::Refused(r);
     }
-    let sizes = Sizes { n, h, darts };
     let start = Place {
         row: involution,
         dart,

@@ -9,6 +9,13 @@ ghost use mathlib.Core.Path.{_≡_};
 ghost use Rattle.maps.specs.Read.{question as questionOf};
 ghost use Rattle.answers.specs.Numbers.{verdictOf};
 
+// n, h and N of the pyramid lent.
+pub struct Sizes {
+    pub n: Dim,
+    pub h: Level,
+    pub darts: u16,
+}
+
 // A neighbour, and the number of base entries read on the way to it.
 pub struct Neighbour {
     pub dart: u16,
@@ -22,17 +29,12 @@ pub enum Reading {
 }
 
 // What is tested before a walk: 1, 2, 3, 4, 11, 13, then 12, 8 and 12 of the starting dart.
-pub fn question(
-    n: Dim,
-    darts: u16,
-    h: Level,
-    rows: &[u16],
-    lambda: &[u8],
-    delta: &[u8],
-    asked: Question,
-) -> Check
-    ensures { λ r. ⌜ verdictOf r ≡ questionOf (n .0) darts (h .0) (now (rows .entry)) (now (lambda .entry)) (now (delta .entry)) (asked .level .0) (asked .involution .0) (asked .dart) ⌝ }
+pub fn question(sizes: Sizes, rows: &[u16], lambda: &[u8], delta: &[u8], asked: Question) -> Check
+    ensures { λ r. ⌜ verdictOf r ≡ questionOf (sizes .n .0) (sizes .darts) (sizes .h .0) (now (rows .entry)) (now (lambda .entry)) (now (delta .entry)) (asked .level .0) (asked .involution .0) (asked .dart) ⌝ }
 {
+    let n = sizes.n;
+    let h = sizes.h;
+    let darts = sizes.darts;
     let fit = answers::pyramid_fits(n, darts, rows.len(), lambda.len(), delta.len());
     if let Check::Refused(r) = answers::asked(n, darts, h, fit, asked) {
         return Check::Refused(r);

@@ -7,7 +7,9 @@ use answers::Dim;
 use answers::Level;
 use answers::Mark;
 use answers::Onward;
+use answers::Question;
 use answers::Refusal;
+use questions::Sizes;
 ghost use mathlib.Core.Path.{_≡_};
 ghost use Prim.Native.Nat.{suc, _*_, max};
 ghost use lib.ListN.{length};
@@ -44,21 +46,20 @@ enum Rest {
 
 // The walk of a dart goes on from the dart met by its first read. All marks are allowed, so 8 is not tested again. A dart is passed, so the one more waits for the end.
 fn onward(
-    n: Dim,
-    darts: u16,
-    h: Level,
+    sizes: Sizes,
     rows: &[u16],
     lambda: &[u8],
     delta: &[u8],
-    level: Level,
-    involution: Dim,
-    dart: u16,
+    asked: Question,
     met: u16,
 ) -> Rest
-    requires { ⌜ Allowed (n .0) darts (h .0) (now rows) (now lambda) (now delta) (level .0) × Meets darts (now rows) (now lambda) (level .0) (n .0) (involution .0) dart met ⌝ }
-    ensures { λ r. ⌜ Tells darts (level .0) (walkOf (entry darts (now (rows .entry))) (n .0) darts (h .0) (each (now (lambda .entry))) (each (now (delta .entry))) (level .0) (involution .0) dart) (sinceOf (entry darts (now (rows .entry))) darts (each (now (lambda .entry))) (each (now (delta .entry))) (level .0) (involution .0) dart) r ⌝ }
+    requires { ⌜ Allowed (sizes .n .0) (sizes .darts) (sizes .h .0) (now rows) (now lambda) (now delta) (asked .level .0) × Meets (sizes .darts) (now rows) (now lambda) (asked .level .0) (sizes .n .0) (asked .involution .0) (asked .dart) met ⌝ }
+    ensures { λ r. ⌜ Tells (sizes .darts) (asked .level .0) (walkOf (entry (sizes .darts) (now (rows .entry))) (sizes .n .0) (sizes .darts) (sizes .h .0) (each (now (lambda .entry))) (each (now (delta .entry))) (asked .level .0) (asked .involution .0) (asked .dart)) (sinceOf (entry (sizes .darts) (now (rows .entry))) (sizes .darts) (each (now (lambda .entry))) (each (now (delta .entry))) (asked .level .0) (asked .involution .0) (asked .dart)) r ⌝ }
 {
+    let darts = sizes.darts;
     let most = 1 + 2 * darts as u32;
+    let level = asked.level;
+    let involution = asked.involution;
     let mut t = involution;
     let mut from = met as usize;
     let mut count: u32 = 1;
@@ -70,7 +71,7 @@ fn onward(
             return Rest::Stopped(Stop::NoPass(t, from as u16));
         };
         if count == most {
-            return Rest::Stopped(Stop::Long(involution, dart));
+            return Rest::Stopped(Stop::Long(involution, asked.dart));
         }
         t = row;
         let e = answers::at(darts, rows, t, from as u16);
@@ -110,18 +111,18 @@ pub struct Walks {
 
 // The walks of a level into the table, over rows, then darts, left at the first refusal. A neighbour that is on the level needs no call.
 pub fn fill(
-    n: Dim,
-    darts: u16,
-    h: Level,
+    sizes: Sizes,
     rows: &[u16],
     lambda: &[u8],
     delta: &[u8],
     level: Level,
     table: &mut [u16],
 ) -> Walks
-    requires { ⌜ Allowed (n .0) darts (h .0) (now rows) (now lambda) (now delta) (level .0) × (length (now table) ≡ suc (n .0) * darts) ⌝ }
-    ensures { λ r. ⌜ Leaves (n .0) darts (h .0) (now (rows .entry)) (now (lambda .entry)) (now (delta .entry)) (level .0) r (now (table .exit)) ⌝ }
+    requires { ⌜ Allowed (sizes .n .0) (sizes .darts) (sizes .h .0) (now rows) (now lambda) (now delta) (level .0) × (length (now table) ≡ suc (sizes .n .0) * sizes .darts) ⌝ }
+    ensures { λ r. ⌜ Leaves (sizes .n .0) (sizes .darts) (sizes .h .0) (now (rows .entry)) (now (lambda .entry)) (now (delta .entry)) (level .0) r (now (table .exit)) ⌝ }
 {
+    let n = sizes.n;
+    let darts = sizes.darts;
     let mut stop = Stop::Nowhere;
     let mut total: u32 = 0;
     let mut since = Level(0);
@@ -140,7 +141,12 @@ pub fn fill(
                     table[place] = e;
                     total += 1;
                 } else {
-                    match onward(n, darts, h, rows, lambda, delta, level, Dim(i), d, e) {
+                    let asked = Question {
+                        level,
+                        involution: Dim(i),
+                        dart: d,
+                    };
+                    match onward(sizes, rows, lambda, delta, asked, e) {
                         Rest::Ended(end) => {
                             table[place] = end.dart;
                             total += end.count;

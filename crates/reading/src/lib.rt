@@ -11,6 +11,7 @@ use answers::Refusal;
 use filling::answer;
 use filling::clear;
 use filling::fill;
+use questions::Sizes;
 ghost use mathlib.Core.Path.{_≡_};
 ghost use Prim.Native.Nat.{_≤_, _<_, max};
 ghost use Rattle.maps.specs.Read.{ifFound, readLent, readSince, readingOf};
@@ -57,19 +58,14 @@ pub(crate) fn later(one: Level, other: Level) -> Level
 }
 
 // The direct walk of a dart: at each read 5 and 8; then the dart met is on the level, or 14, or 15, or it is passed.
-fn walk(
-    n: Dim,
-    darts: u16,
-    h: Level,
-    rows: &[u16],
-    lambda: &[u8],
-    delta: &[u8],
-    asked: Question,
-) -> Reading
-    requires { ⌜ Lent (n .0) darts (h .0) (now rows) (now lambda) (now delta) (asked .level .0) × (asked .involution .0 ≤ n .0) × (asked .dart < darts) ⌝ }
-    ensures { λ r. ⌜ valueOf r ≡ readingOf (asked .level .0) (walkOf (entry darts (now (rows .entry))) (n .0) darts (h .0) (each (now (lambda .entry))) (each (now (delta .entry))) (asked .level .0) (asked .involution .0) (asked .dart)) ⌝ }
-    ensures { λ r. ⌜ standsSince r ≡ ifFound (readingOf (asked .level .0) (walkOf (entry darts (now (rows .entry))) (n .0) darts (h .0) (each (now (lambda .entry))) (each (now (delta .entry))) (asked .level .0) (asked .involution .0) (asked .dart))) (sinceOf (entry darts (now (rows .entry))) darts (each (now (lambda .entry))) (each (now (delta .entry))) (asked .level .0) (asked .involution .0) (asked .dart)) ⌝ }
+fn walk(sizes: Sizes, rows: &[u16], lambda: &[u8], delta: &[u8], asked: Question) -> Reading
+    requires { ⌜ Lent (sizes .n .0) (sizes .darts) (sizes .h .0) (now rows) (now lambda) (now delta) (asked .level .0) × (asked .involution .0 ≤ sizes .n .0) × (asked .dart < sizes .darts) ⌝ }
+    ensures { λ r. ⌜ valueOf r ≡ readingOf (asked .level .0) (walkOf (entry (sizes .darts) (now (rows .entry))) (sizes .n .0) (sizes .darts) (sizes .h .0) (each (now (lambda .entry))) (each (now (delta .entry))) (asked .level .0) (asked .involution .0) (asked .dart)) ⌝ }
+    ensures { λ r. ⌜ standsSince r ≡ ifFound (readingOf (asked .level .0) (walkOf (entry (sizes .darts) (now (rows .entry))) (sizes .n .0) (sizes .darts) (sizes .h .0) (each (now (lambda .entry))) (each (now (delta .entry))) (asked .level .0) (asked .involution .0) (asked .dart))) (sinceOf (entry (sizes .darts) (now (rows .entry))) (sizes .darts) (each (now (lambda .entry))) (each (now (delta .entry))) (asked .level .0) (asked .involution .0) (asked .dart)) ⌝ }
 {
+    let n = sizes.n;
+    let h = sizes.h;
+    let darts = sizes.darts;
     let most = 1 + 2 * darts as u32;
     let level = asked.level;
     let involution = asked.involution;
@@ -131,9 +127,10 @@ pub fn read(
         involution,
         dart,
     };
-    match questions::question(n, darts, h, rows, lambda, delta, asked) {
+    let sizes = Sizes { n, h, darts };
+    match questions::question(sizes, rows, lambda, delta, asked) {
         Check::Refused(r) => Reading::Refused(r),
-        Check::Accepted => walk(n, darts, h, rows, lambda, delta, asked),
+        Check::Accepted => walk(sizes, rows, lambda, delta, asked),
     }
 }
 
@@ -166,7 +163,8 @@ pub fn unfold(
     if let Check::Refused(r) = answers::marks_refusal(n, darts, h, lambda, delta, level) {
         return Total::Refused(r);
     }
-    match answer(level, fill(n, darts, h, rows, lambda, delta, level, table)) {
+    let sizes = Sizes { n, h, darts };
+    match answer(level, fill(sizes, rows, lambda, delta, level, table)) {
         Total::Counted(all) => Total::Counted(all),
         Total::Refused(r) => {
             clear(table);

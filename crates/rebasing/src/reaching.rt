@@ -1,6 +1,7 @@
 // The kernels below a level, removed in the rows themselves. The strings of the darts by kernel, 8,704 bytes, are all the local memory here.
 use answers::Dim;
 use answers::Level;
+use kernels::Kernel;
 ghost use mathlib.Core.Path.{_≡_};
 ghost use Prim.Native.Nat.{ℕ};
 ghost use Rattle.maps.specs.Table.{entry, each};
@@ -26,6 +27,12 @@ pub(crate) fn climb(
     let top = level.0;
     for l in 0..top {
         let first = head[l as usize];
-        kernels::remove(n, darts, Level(l), lambda, delta, &next, first, rows);
+        let kernel = Kernel {
+            n,
+            darts: darts as u16,
+            level: Level(l),
+            first,
+        };
+        kernels::remove(kernel, lambda, delta, &next, rows);
     }
 }

@@ -53,6 +53,9 @@ mul-first c = search needs
 array-read-first : tie.Need-array-read-first Inv-loop μ-loop
 array-read-first c = search needs
 
+cast-t26 : tie.Need-cast-t26 Inv-loop μ-loop
+cast-t26 c = omega (arith, start (linked (c .before)) .pre .0 .darts)
+
 step-requires : tie.Need-step-requires Inv-loop μ-loop
 step-requires c κs =
     let i = c .before .before in
@@ -106,6 +109,7 @@ climb-to-spec =
     cast-first
     mul-first
     array-read-first
+    cast-t26
     step-requires
     enum-known-r
     same-length

@@ -17,7 +17,7 @@ start c = c .before .before .before .before .before
 
 -- past the test of 9, 9 is not refused; past that of 10, 10 is not
 abbrev Nine : tie.After-whole → Type 0
-Nine c = let a = start c .args in accepted ≡ check9 (entry (a .darts) (now (a .table))) (a .n .0) (a .darts) (kernelRow (now (a .lambda)) (now (a .delta)) (a .l .0)) (a .l .0)
+Nine c = let a = start c .args in accepted ≡ check9 (entry (a .kernel .darts) (now (a .table))) (a .kernel .n .0) (a .kernel .darts) (kernelRow (now (a .lambda)) (now (a .delta)) (a .kernel .level .0)) (a .kernel .level .0)
 
 nine : (c : tie.After-enum-told) → Nine (c .before .before)
 nine c = told (c .before .before .whole .ensures) (c .enum-told .given .1)
@@ -25,7 +25,7 @@ nine c = told (c .before .before .whole .ensures) (c .enum-told .given .1)
 abbrev passed : tie.After-enum-told2 → tie.After-enum-told
 passed c = c .before .before .before .before
 
-ten : (c : tie.After-enum-told2) → let a = start (passed c .before .before) .args in accepted ≡ check10 (entry (a .darts) (now (a .table))) (a .n .0) (a .darts) (kernelRow (now (a .lambda)) (now (a .delta)) (a .l .0)) (a .l .0)
+ten : (c : tie.After-enum-told2) → let a = start (passed c .before .before) .args in accepted ≡ check10 (entry (a .kernel .darts) (now (a .table))) (a .kernel .n .0) (a .kernel .darts) (kernelRow (now (a .lambda)) (now (a .delta)) (a .kernel .level .0)) (a .kernel .level .0)
 ten c = told (c .before .before .fitting .ensures) (c .enum-told2 .given .1)
 
 whole-requires : tie.Need-whole-requires

@@ -16,14 +16,14 @@ use Rattle.reading.proofs.walk.Statement.{statement}
 use Rattle.reading.proofs.walk.Tie as tie
 
 abbrev Inv-loop : tie.InvT-loop
-Inv-loop n darts h rows lambda delta asked most level involution t₀ from₀ count₀ since₀ t from count since = Next rows lambda delta (n .0) darts (h .0) (asked .level .0) (asked .involution .0) (asked .dart) (t .0) from count (since .0)
+Inv-loop rows lambda delta asked n h darts most level involution t₀ from₀ count₀ since₀ t from count since = Next rows lambda delta (n .0) darts (h .0) (asked .level .0) (asked .involution .0) (asked .dart) (t .0) from count (since .0)
 
 abbrev μ-loop : tie.MeasureT-loop
-μ-loop n darts h rows lambda delta asked most level involution t₀ from₀ count₀ since₀ t from count since = 1 + 2 * darts - count
+μ-loop rows lambda delta asked n h darts most level involution t₀ from₀ count₀ since₀ t from count since = 1 + 2 * darts - count
 
 -- where the function starts, from where the entry read is a dart
 abbrev start : tie.Else1 Inv-loop μ-loop → tie.Start Inv-loop μ-loop
-start c = c .before .before .before .before .before .before .before .before
+start c = c .before .before .before .before .before .before .before .before .before .before
 
 -- where the entry read is a dart, from where its marks are read
 abbrev read : tie.After-struct-known2 Inv-loop μ-loop → tie.Else1 Inv-loop μ-loop
@@ -39,7 +39,7 @@ marked c = c .before .before .before .before .before .before .before .before
 
 -- the dart met is not on the level
 met : (c : tie.Else2 Inv-loop μ-loop) → let r = read (c .before) in let a = start r .args in let l = r .before .before .loop in
-    Meets (a .darts) (now (a .rows)) (now (a .lambda)) (a .asked .level .0) (a .n .0) (l .t .0) (l .from) (r .before .at .result)
+    Meets (a .sizes .darts) (now (a .rows)) (now (a .lambda)) (a .asked .level .0) (a .sizes .n .0) (l .t .0) (l .from) (r .before .at .result)
 met c =
     let r = read (c .before) in
     let s = r .before .before .loop .inv in
@@ -47,16 +47,16 @@ met c =
 
 -- its mark decides
 decided : (c : tie.After-is-mark Inv-loop μ-loop) → let r = read (c .before .before) in let a = start r .args in let e = r .before .at .result in
-    refusedMarks (a .n .0) (a .h .0) (each (now (a .lambda)) e) (each (now (a .delta)) e) ≡ not (c .is-mark .result)
+    refusedMarks (a .sizes .n .0) (a .sizes .h .0) (each (now (a .lambda)) e) (each (now (a .delta)) e) ≡ not (c .is-mark .result)
 decided c =
     let r = read (c .before .before) in
     let a = start r .args in
     let e = r .before .at .result in
-    gone-marks (a .n .0) (a .h .0) (each (now (a .lambda)) e) (each (now (a .delta)) e) (a .asked .level .0) (start r .pre .0 .level) (c .before .if2 .left) ∙ ap not (sym (c .is-mark .ensures))
+    gone-marks (a .sizes .n .0) (a .sizes .h .0) (each (now (a .lambda)) e) (each (now (a .delta)) e) (a .asked .level .0) (start r .pre .0 .level) (c .before .if2 .left) ∙ ap not (sym (c .is-mark .ensures))
 
 -- the walk at a dart that it met, not on the level and with a mark
 allowed : (c : tie.Else4 Inv-loop μ-loop) → let r = read (c .before .before .before) in let a = start r .args in let e = r .before .at .result in
-    refusedMarks (a .n .0) (a .h .0) (each (now (a .lambda)) e) (each (now (a .delta)) e) ≡ false
+    refusedMarks (a .sizes .n .0) (a .sizes .h .0) (each (now (a .lambda)) e) (each (now (a .delta)) e) ≡ false
 allowed c = decided (c .before) ∙ c .if4 .left
 
 -- the row to go on by
@@ -64,20 +64,23 @@ passed : (c : tie.After-across Inv-loop μ-loop) → let r = read (c .before .be
     Goes (each (now (start r .args .delta)) (r .before .at .result)) (r .before .before .loop .t .0) (By (c .across .given .0 .0))
 passed c = let r = read (c .before .before .before .before .before .before) in goes-told (each (now (start r .args .delta)) (r .before .at .result)) (r .before .before .loop .t .0) (c .before .before .row-across .ensures) (c .across .given .1)
 
+cast-most : tie.Need-cast-most Inv-loop μ-loop
+cast-most c = omega (arith, c .before .before .before .before .before .pre .0 .darts)
+
 mul-most : tie.Need-mul-most Inv-loop μ-loop
-mul-most c = search needs
+mul-most c = omega (arith, c .before .before .before .before .before .pre .0 .darts)
 
 add-most : tie.Need-add-most Inv-loop μ-loop
-add-most c = search needs
+add-most c = omega (arith, c .before .before .before .before .before .pre .0 .darts)
 
 loop-holds : tie.Need-loop-holds Inv-loop μ-loop
 loop-holds c =
-    let a = c .before .before .before .before .before .args in
-    let p = c .before .before .before .before .before .pre in
-    next-first (now (a .rows)) (now (a .lambda)) (now (a .delta)) (a .n .0) (a .darts) (a .h .0) (a .asked .level .0) (a .asked .involution .0) (a .asked .dart) (p .1) (p .2)
+    let a = c .before .before .before .before .before .before .before .args in
+    let p = c .before .before .before .before .before .before .before .pre in
+    next-first (now (a .rows)) (now (a .lambda)) (now (a .delta)) (a .sizes .n .0) (a .sizes .darts) (a .sizes .h .0) (a .asked .level .0) (a .asked .involution .0) (a .asked .dart) (p .1) (p .2)
 
 at-requires : tie.Need-at-requires Inv-loop μ-loop
-at-requires c κs = entry-fits (c .before .before .before .before .before .before .pre .0) (c .loop .inv .row) (c .loop .inv .dart)
+at-requires c κs = entry-fits (c .before .before .before .before .before .before .before .before .pre .0) (c .loop .inv .row) (c .loop .inv .dart)
 
 returns : tie.Need-returns Inv-loop μ-loop
 returns c = stop-says _ (strays (c .before .before .loop .inv) (c .before .at .ensures) (c .if1 .taken))
@@ -85,17 +88,17 @@ returns c = stop-says _ (strays (c .before .before .loop .inv) (c .before .at .e
 add-count : tie.Need-add-count Inv-loop μ-loop
 add-count c = omega (arith, start c .pre .0 .darts, c .before .before .loop .inv .few)
 
-cast-t24 : tie.Need-cast-t24 Inv-loop μ-loop
-cast-t24 c = search needs
+cast-t25 : tie.Need-cast-t25 Inv-loop μ-loop
+cast-t25 c = search needs
 
-shared-slice-read-t26 : tie.Need-shared-slice-read-t26 Inv-loop μ-loop
-shared-slice-read-t26 c = search needs
+shared-slice-read-t27 : tie.Need-shared-slice-read-t27 Inv-loop μ-loop
+shared-slice-read-t27 c = search needs
 
-cast-t24-2 : tie.Need-cast-t24-2 Inv-loop μ-loop
-cast-t24-2 c = search needs
+cast-t25-2 : tie.Need-cast-t25-2 Inv-loop μ-loop
+cast-t25-2 c = search needs
 
-shared-slice-read-t26-2 : tie.Need-shared-slice-read-t26-2 Inv-loop μ-loop
-shared-slice-read-t26-2 c = search needs
+shared-slice-read-t27-2 : tie.Need-shared-slice-read-t27-2 Inv-loop μ-loop
+shared-slice-read-t27-2 c = search needs
 
 marks-refused-requires : tie.Need-marks-refused-requires Inv-loop μ-loop
 marks-refused-requires c κs = search needs
@@ -142,8 +145,8 @@ returns-6 c =
     let r = read (w .before .before .before) in
     stop-says _ (long (r .before .before .loop .inv) (met (w .before .before)) (start r .pre .0 .level) (allowed w) (passed (c .before .before) .0) (c .if5 .taken))
 
-add-t26 : tie.Need-add-t26 Inv-loop μ-loop
-add-t26 c = omega (arith, c .before .before .before .before .before .before .before .before .if2 .left)
+add-t27 : tie.Need-add-t27 Inv-loop μ-loop
+add-t27 c = omega (arith, c .before .before .before .before .before .before .before .before .if2 .left)
 
 later-requires : tie.Need-later-requires Inv-loop μ-loop
 later-requires c κs = search needs
@@ -164,16 +167,17 @@ walk-spec =
     (tie.spec
     Inv-loop
     μ-loop
+    cast-most
     mul-most
     add-most
     loop-holds
     at-requires
     returns
     add-count
-    cast-t24
-    shared-slice-read-t26
-    cast-t24-2
-    shared-slice-read-t26-2
+    cast-t25
+    shared-slice-read-t27
+    cast-t25-2
+    shared-slice-read-t27-2
     marks-refused-requires
     returns-2
     returns-3
@@ -184,7 +188,7 @@ walk-spec =
     enum-told
     returns-5
     returns-6
-    add-t26
+    add-t27
     later-requires
     loop-less
     loop-again)

@@ -16,14 +16,14 @@ use Rattle.kernels.proofs.removing.follow.Statement.{statement}
 use Rattle.kernels.proofs.removing.follow.Tie as tie
 
 abbrev Inv-loop : tie.InvT-loop
-Inv-loop darts l lambda delta table i start mark₀ rows₀ times₀ e₀ mark rows times e = Following darts (l .0) lambda delta table (i .0) start (mark .0) (rows .1 .0) times e
+Inv-loop darts l lambda delta table i mark₀ rows₀ times₀ e₀ mark rows times e = Following darts (l .0) lambda delta table (i .0) e₀ (mark .0) (rows .1 .0) times e
 
 abbrev μ-loop : tie.MeasureT-loop
-μ-loop darts l lambda delta table i start mark₀ rows₀ times₀ e₀ mark rows times e = times
+μ-loop darts l lambda delta table i mark₀ rows₀ times₀ e₀ mark rows times e = times
 
 -- the entry, from the head of the loop
 abbrev start : tie.At-loop Inv-loop μ-loop → tie.Start Inv-loop μ-loop
-start c = c .before .before .before .before .before .before
+start c = c .before .before .before .before .before .before .before
 
 -- the head of the loop, and the dart met on the first row and then on the second, from where its turn ends
 abbrev head : tie.After-at2 Inv-loop μ-loop → tie.At-loop Inv-loop μ-loop
@@ -40,16 +40,16 @@ inside : (c : tie.Else1 Inv-loop μ-loop) → let t = c .before .before in let a
 inside c = sym (c .before .removed .ensures) ∙ not-false _ (c .if1 .left)
 
 mark-of-requires : tie.Need-mark-of-requires Inv-loop μ-loop
-mark-of-requires c κs = let p = c .before .before .before .pre in omega (arith, p .0 .0 .delta-long, p .1 .1)
+mark-of-requires c κs = let p = c .before .before .before .before .pre in omega (arith, p .0 .0 .delta-long, p .1 .1)
 
 between-requires : tie.Need-between-requires Inv-loop μ-loop
 between-requires c κs =
-    let p = c .before .before .before .before .pre in
-    follow-byte (p .0 .0) (p .0 .1) (c .before .before .before .before .args .i .0) _ (p .1 .1) (eq-eqb _ _ (p .1 .2)) (c .mark-of .ensures)
+    let p = c .before .before .before .before .before .pre in
+    follow-byte (p .0 .0) (p .0 .1) (c .before .before .before .before .before .args .start .row .0) _ (p .1 .1) (eq-eqb _ _ (p .1 .2)) (c .mark-of .ensures)
 
 loop-holds : tie.Need-loop-holds Inv-loop μ-loop
 loop-holds c =
-    let p = c .before .before .before .before .before .pre in
+    let p = c .before .before .before .before .before .before .pre in
     let m = c .before .mark-of .ensures in
     record { dart = p .1 .1; removed = eq-eqb _ _ (p .1 .2); mark-is = m; first-row = ap (λ (x : ℕ). between x .0) m ∙ p .1 .3; second-row = c .between .ensures .1; rest = λ n k w li. refl }
 

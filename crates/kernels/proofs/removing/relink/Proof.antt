@@ -4,6 +4,7 @@ use mathlib.Core.Logic.{⊎-elim}
 use Prim.Native.Nat.{ℕ, _-_, _≤_, _<_}
 use native.Mathlib.Omega.{arith}
 use denote.Ref.{now}
+use borrow.Author.Needs.{needs}
 use borrow.Author.Tests.{eqb-true, not-true, not-false}
 use Rattle.maps.specs.Mark.{between}
 use Rattle.laws.proofs.Marks.{mark-byte}
@@ -17,15 +18,15 @@ use Rattle.kernels.proofs.removing.relink.Statement.{statement}
 use Rattle.kernels.proofs.removing.relink.Tie as tie
 
 abbrev Inv-loop : tie.InvT-loop
-Inv-loop n darts l lambda delta next first table₀ links₀ d₀ table links d =
+Inv-loop lambda delta next table₀ n darts l links₀ d₀ table links d =
     RelinkTo (n .0) darts (kernelRow lambda delta (l .0)) table₀ table d × (links ≡ linksTo (n .0) darts (kernelRow lambda delta (l .0)) table₀ d)
 
 abbrev μ-loop : tie.MeasureT-loop
-μ-loop n darts l lambda delta next first table₀ links₀ d₀ table links d = darts - d
+μ-loop lambda delta next table₀ n darts l links₀ d₀ table links d = darts - d
 
 -- the entry, from the head of the loop; and the turn, from where its dart leads
 abbrev start : tie.At-loop Inv-loop μ-loop → tie.Start Inv-loop μ-loop
-start c = c .before .before .before .before
+start c = c .before .before .before .before .before .before .before .before
 
 abbrev turn : tie.After-at Inv-loop μ-loop → tie.After-mark-of Inv-loop μ-loop
 turn c = c .before .before .before .before
@@ -35,18 +36,18 @@ abbrev asked : tie.After-follow-arg Inv-loop μ-loop → tie.After-at Inv-loop �
 asked c = c .before .before .before .before .before .before
 
 -- Δ of the dart is its mark
-mark : (c : tie.After-mark-of Inv-loop μ-loop) → let a = start (c .before .before) .args in c .mark-of .result .0 ≡ kernelRow (now (a .lambda)) (now (a .delta)) (a .l .0) (c .before .before .loop .d)
+mark : (c : tie.After-mark-of Inv-loop μ-loop) → let a = start (c .before .before) .args in c .mark-of .result .0 ≡ kernelRow (now (a .lambda)) (now (a .delta)) (a .kernel .level .0) (c .before .before .loop .d)
 mark c =
     let p = start (c .before .before) .pre in
     let ld = c .before .loop-test .taken in
     c .mark-of .ensures ∙ mark-is (p .1 .marks) (p .0 .tested .shape .dimension) (c .before .before .loop .d) ld (c .before .before .loop .inv .0 .here ld)
 
 -- its first row
-first-row : (c : tie.After-between Inv-loop μ-loop) → let h = c .before .before .before in let a = start h .args in c .between .result .0 .0 ≡ between (kernelRow (now (a .lambda)) (now (a .delta)) (a .l .0) (h .loop .d)) .0
+first-row : (c : tie.After-between Inv-loop μ-loop) → let h = c .before .before .before in let a = start h .args in c .between .result .0 .0 ≡ between (kernelRow (now (a .lambda)) (now (a .delta)) (a .kernel .level .0) (h .loop .d)) .0
 first-row c = c .between .ensures .0 ∙ ap (λ (m : ℕ). between m .0) (mark (c .before))
 
 -- it leads to a dart, and its row is a row of the map
-dart : (c : tie.After-at Inv-loop μ-loop) → let a = start (turn c .before .before) .args in (c .at .result < a .darts) × (c .before .before .before .between .result .0 .0 ≤ a .n .0)
+dart : (c : tie.After-at Inv-loop μ-loop) → let a = start (turn c .before .before) .args in (c .at .result < a .kernel .darts) × (c .before .before .before .between .result .0 .0 ≤ a .kernel .n .0)
 dart c =
     let i = turn c .before in
     let p = start (i .before) .pre in
@@ -54,11 +55,17 @@ dart c =
     (b-dart (p .0) (p .1 .string) (i .before .loop .inv .0) (i .loop-test .taken) f (c .at .ensures), low (p .0) (p .1 .string) (i .before .loop .inv .0) (i .loop-test .taken) f)
 
 -- in that row every dart has its place
-place-of : (c : tie.After-at Inv-loop μ-loop) → let h = turn c .before .before in (x : ℕ) → x < start h .args .darts → Place (start h .args .darts) (h .loop .table) (c .before .before .before .between .result .0 .0) x
+place-of : (c : tie.After-at Inv-loop μ-loop) → let h = turn c .before .before in (x : ℕ) → x < start h .args .kernel .darts → Place (start h .args .kernel .darts) (h .loop .table) (c .before .before .before .between .result .0 .0) x
 place-of c x l = let h = turn c .before .before in place-still (h .loop .inv .0 .table .long) (place (start h .pre .0 .tested .shape) _ x (dart c .1) l)
 
+cast-darts : tie.Need-cast-darts Inv-loop μ-loop
+cast-darts c = search needs
+
+cast-d : tie.Need-cast-d Inv-loop μ-loop
+cast-d c = search needs
+
 loop-holds : tie.Need-loop-holds Inv-loop μ-loop
-loop-holds c = let p = c .before .before .before .pre in (relink-start (p .0) (p .1 .string), sym (links-start _ _ _ _ (p .1 .string)))
+loop-holds c = let p = c .before .before .before .before .before .before .before .pre in (relink-start (p .0) (p .1 .string), sym (links-start _ _ _ _ (p .1 .string)))
 
 mark-of-requires : tie.Need-mark-of-requires Inv-loop μ-loop
 mark-of-requires c κs = omega (arith, start (c .before) .pre .1 .marks .delta-long)
@@ -67,7 +74,7 @@ between-requires : tie.Need-between-requires Inv-loop μ-loop
 between-requires c κs =
     let s = start (c .before .before) in
     let z = s .pre .0 .tested .shape .dimension in
-    mark-byte (s .args .n .0) (c .mark-of .result .0) (omega arith) (rw (mark c) (c .before .before .loop .inv .0 .here (c .before .loop-test .taken)))
+    mark-byte (s .args .kernel .n .0) (c .mark-of .result .0) (omega arith) (rw (mark c) (c .before .before .loop .inv .0 .here (c .before .loop-test .taken)))
 
 at-requires : tie.Need-at-requires Inv-loop μ-loop
 at-requires c κs =
@@ -103,7 +110,7 @@ add-links c =
     let i = turn (asked (c .before .before .before .before .before)) .before in
     let l = i .before .loop in
     let a = start (i .before) .args in
-    let few = links-few (a .n .0) (a .darts) (kernelRow (now (a .lambda)) (now (a .delta)) (a .l .0)) (now (a .table)) (l .d) in
+    let few = links-few (a .kernel .n .0) (a .kernel .darts) (kernelRow (now (a .lambda)) (now (a .delta)) (a .kernel .level .0)) (now (a .table)) (l .d) in
     omega (arith, l .inv .1, i .loop-test .taken, start (i .before) .pre .0 .tested .shape .darts)
 
 next-of-requires : tie.Need-next-of-requires Inv-loop μ-loop
@@ -162,6 +169,8 @@ relink-spec =
     (tie.spec
     Inv-loop
     μ-loop
+    cast-darts
+    cast-d
     loop-holds
     mark-of-requires
     between-requires

@@ -16,36 +16,42 @@ use Rattle.kernels.proofs.testing.fitting.Statement.{statement}
 use Rattle.kernels.proofs.testing.fitting.Tie as tie
 
 abbrev Inv-loop : tie.InvT-loop
-Inv-loop n darts l lambda delta next first table mark₀ tested₀ d₀ mark tested d =
-    Walk (n .0) darts (l .0) first lambda delta next table (ten (n .0) darts (l .0) (kernelRow lambda delta (l .0)) table) d × (tested ≡ hasBeyond (n .0) (mark .0))
+Inv-loop lambda delta next table n darts l mark₀ tested₀ d₀ mark tested d =
+    Walk (n .0) darts (l .0) d₀ lambda delta next table (ten (n .0) darts (l .0) (kernelRow lambda delta (l .0)) table) d × (tested ≡ hasBeyond (n .0) (mark .0))
 
 abbrev μ-loop : tie.MeasureT-loop
-μ-loop n darts l lambda delta next first table mark₀ tested₀ d₀ mark tested d = darts - d
+μ-loop lambda delta next table n darts l mark₀ tested₀ d₀ mark tested d = darts - d
 
 -- the turn, from where the mark at hand is the dart's
 abbrev turn : tie.Joined1 Inv-loop μ-loop → tie.In-loop Inv-loop μ-loop
 turn c = c .before .before .before .before
 
 abbrev start : tie.At-loop Inv-loop μ-loop → tie.Start Inv-loop μ-loop
-start c = c .before .before .before .before .before
+start c = c .before .before .before .before .before .before .before .before .before
 
 -- the mark at hand is that of the dart, and it is known whether it has a row beyond
 own : (c : tie.Joined1 Inv-loop μ-loop)
     → let h = turn c .before in
-    let a = start h .args in (c .if1 .mark .0 ≡ each (now (a .delta)) (h .loop .d)) × (c .if1 .tested ≡ hasBeyond (a .n .0) (c .if1 .mark .0))
+    let a = start h .args in (c .if1 .mark .0 ≡ each (now (a .delta)) (h .loop .d)) × (c .if1 .tested ≡ hasBeyond (a .kernel .n .0) (c .if1 .mark .0))
 own c =
     let is = c .before .before .before .mark-of .ensures in
-    let beyond : Mark → Bool = λ m. hasBeyond (start (turn c .before) .args .n .0) (m .0) in
+    let beyond : Mark → Bool = λ m. hasBeyond (start (turn c .before) .args .kernel .n .0) (m .0) in
     ⊎-elim
     (λ w. (ap (λ (m : Mark). m .0) (w .2) ∙ is, w .3 ∙ w .1 .ensures ∙ ap beyond (sym (w .2))))
     (λ w. (ap (λ (m : Mark). m .0) (w .1) ∙ sym (w .0 .left) ∙ is, w .2 ∙ turn c .before .loop .inv .1 ∙ ap beyond (sym (w .1))))
     (c .if1 .came)
 
+cast-darts : tie.Need-cast-darts Inv-loop μ-loop
+cast-darts c = search needs
+
 has-beyond-requires : tie.Need-has-beyond-requires Inv-loop μ-loop
 has-beyond-requires c κs = search needs
 
+cast-d : tie.Need-cast-d Inv-loop μ-loop
+cast-d c = search needs
+
 loop-holds : tie.Need-loop-holds Inv-loop μ-loop
-loop-holds c = let s = c .before .before .before .before in (walk-start (s .pre .0) (s .pre .1) (ten-free _ _ _ _ (now (s .args .table))), c .has-beyond .ensures)
+loop-holds c = let s = c .before .before .before .before .before .before .before .before in (walk-start (s .pre .0) (s .pre .1) (ten-free _ _ _ _ (now (s .args .table))), c .before .has-beyond .ensures)
 
 mark-of-requires : tie.Need-mark-of-requires Inv-loop μ-loop
 mark-of-requires c κs = walk-rooms (c .before .loop .inv .0) (c .loop-test .taken) .0
@@ -99,7 +105,9 @@ fitting-spec =
     (tie.spec
     Inv-loop
     μ-loop
+    cast-darts
     has-beyond-requires
+    cast-d
     loop-holds
     mark-of-requires
     has-beyond-requires-2

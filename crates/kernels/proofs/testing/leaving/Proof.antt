@@ -17,8 +17,11 @@ between-requires c κs = search needs
 
 returns : tie.Need-returns
 returns c =
-    let a = c .before .before .before .before .before .before .before .args in
-    rw (eq-eqb (a .j .0) (between (a .mark .0) .0) (c .if1 .taken ∙ c .before .before .before .between .ensures .0))
+    let a = c .before .before .before .before .before .before .before .before .args in
+    rw (eq-eqb (a .j .0) (between (a .marked .mark .0) .0) (c .if1 .taken ∙ c .before .before .before .between .ensures .0))
+
+cast-at : tie.Need-cast-at
+cast-at c = search needs
 
 at-requires : tie.Need-at-requires
 at-requires c κs = search needs
@@ -28,13 +31,13 @@ in-kernel-requires c κs = search needs
 
 returns-2 : tie.Need-returns-2
 returns-2 c =
-    let b : tie.After-between = c .before .before .before .before .before in
-    let s = b .before .before .before .before in
+    let b : tie.After-between = c .before .before .before .before .before .before .before in
+    let s = b .before .before .before .before .before in
     let a = s .args in
-    let row = kernelRow (now (a .lambda)) (now (a .delta)) (a .l .0) in
-    let same = c .in-kernel .ensures ∙ sym (row-is (now (a .lambda)) (now (a .delta)) (a .l .0) (c .before .at .result) (a .mark .0) (s .pre .0 .1)) ∙ ap (λ (x : ℕ). eqb (row x) (a .mark .0)) (c .before .at .ensures) in
-    rw (ne-eqb (a .j .0) (between (a .mark .0) .0) (λ e. c .before .before .if1 .left (e ∙ sym (b .between .ensures .0)))) (ap not same)
+    let row = kernelRow (now (a .lambda)) (now (a .delta)) (a .kernel .level .0) in
+    let same = c .in-kernel .ensures ∙ sym (row-is (now (a .lambda)) (now (a .delta)) (a .kernel .level .0) (c .before .at .result) (a .marked .mark .0) (s .pre .0 .1)) ∙ ap (λ (x : ℕ). eqb (row x) (a .marked .mark .0)) (c .before .at .ensures) in
+    rw (ne-eqb (a .j .0) (between (a .marked .mark .0) .0) (λ e. c .before .before .before .before .if1 .left (e ∙ sym (b .between .ensures .0)))) (ap not same)
 
 pub leaving-spec : {M : Type 1} → statement M
 leaving-spec =
-    tie.close (tie.spec between-requires returns at-requires in-kernel-requires returns-2)
+    tie.close (tie.spec between-requires returns cast-at at-requires in-kernel-requires returns-2)

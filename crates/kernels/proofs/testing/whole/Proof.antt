@@ -16,27 +16,33 @@ use Rattle.kernels.proofs.testing.whole.Statement.{statement}
 use Rattle.kernels.proofs.testing.whole.Tie as tie
 
 abbrev Inv-loop : tie.InvT-loop
-Inv-loop n darts l lambda delta next first table found₀ d mark j₀ j-end found j = (j ≤ n .0 + 1) × (scan j (at9 (entry darts table) (n .0) darts (kernelRow lambda delta (l .0)) (l .0) d) ≡ accepted) × (found ≡ Accepted)
+Inv-loop kernel lambda delta next table n darts l found₀ d marked j₀ j-end found j = (j ≤ n .0 + 1) × (scan j (at9 (entry darts table) (n .0) darts (kernelRow lambda delta (l .0)) (l .0) d) ≡ accepted) × (found ≡ Accepted)
 
 abbrev μ-loop : tie.MeasureT-loop
-μ-loop n darts l lambda delta next first table found₀ d mark j₀ j-end found j = j-end - j
+μ-loop kernel lambda delta next table n darts l found₀ d marked j₀ j-end found j = j-end - j
 
 abbrev Inv-darts : tie.InvT-darts
-Inv-darts n darts l lambda delta next first table found₀ d₀ found d = Walk (n .0) darts (l .0) first lambda delta next table (nine (n .0) darts (l .0) (kernelRow lambda delta (l .0)) table) d × (found ≡ Accepted)
+Inv-darts kernel lambda delta next table n darts l found₀ d₀ found d = Walk (n .0) darts (l .0) d₀ lambda delta next table (nine (n .0) darts (l .0) (kernelRow lambda delta (l .0)) table) d × (found ≡ Accepted)
 
 abbrev μ-darts : tie.MeasureT-darts
-μ-darts n darts l lambda delta next first table found₀ d₀ found d = darts - d
+μ-darts kernel lambda delta next table n darts l found₀ d₀ found d = darts - d
 
 -- the entry
 abbrev start : tie.In-darts Inv-loop μ-loop Inv-darts μ-darts → tie.Start Inv-loop μ-loop Inv-darts μ-darts
-start c = c .before .before .before .before .before
+start c = c .before .before .before .before .before .before .before .before .before
 
 -- the dart that is tested, from the head of the loop over involutions
 abbrev dart : tie.At-loop Inv-loop μ-loop Inv-darts μ-darts → tie.In-darts Inv-loop μ-loop Inv-darts μ-darts
 dart c = c .before .before .before
 
+cast-darts : tie.Need-cast-darts Inv-loop μ-loop Inv-darts μ-darts
+cast-darts c = search needs
+
+cast-d : tie.Need-cast-d Inv-loop μ-loop Inv-darts μ-darts
+cast-d c = search needs
+
 darts-holds : tie.Need-darts-holds Inv-loop μ-loop Inv-darts μ-darts
-darts-holds c = let s = c .before .before .before in (walk-start (s .pre .0) (s .pre .1) (nine-free _ _ _ _ (now (s .args .table))), refl)
+darts-holds c = let s = c .before .before .before .before .before .before .before in (walk-start (s .pre .0) (s .pre .1) (nine-free _ _ _ _ (now (s .args .table))), refl)
 
 mark-of-requires : tie.Need-mark-of-requires Inv-loop μ-loop Inv-darts μ-darts
 mark-of-requires c κs = walk-rooms (c .before .darts .inv .0) (c .darts-test .taken) .0
@@ -53,12 +59,12 @@ leaving-requires c κs =
     let i = dart (c .before) in
     let w = i .before .darts .inv .0 in
     let ld = i .darts-test .taken in
-    let lj : c .before .loop .j ≤ start i .args .n .0 = omega arith in
+    let lj : c .before .loop .j ≤ start i .args .kernel .n .0 = omega arith in
     let le = walk-inside w ld (c .before .loop .j) lj in
     ((place (w .tested .shape) (c .before .loop .j) (i .before .darts .d) lj ld, walk-marked w ld (c .before .before .before .mark-of .ensures) .1), (omega (arith, w .strung .marks .lambda-long), omega (arith, w .strung .marks .delta-long)))
 
-cast-t19 : tie.Need-cast-t19 Inv-loop μ-loop Inv-darts μ-darts
-cast-t19 c = omega (arith, dart (c .before .before .before) .before .darts .inv .0 .tested .shape .darts)
+cast-t20 : tie.Need-cast-t20 Inv-loop μ-loop Inv-darts μ-darts
+cast-t20 c = omega (arith, dart (c .before .before .before) .before .darts .inv .0 .tested .shape .darts)
 
 add-j : tie.Need-add-j Inv-loop μ-loop Inv-darts μ-darts
 add-j c = search needs
@@ -105,12 +111,14 @@ whole-spec =
     μ-loop
     Inv-darts
     μ-darts
+    cast-darts
+    cast-d
     darts-holds
     mark-of-requires
     add-j-end
     loop-holds
     leaving-requires
-    cast-t19
+    cast-t20
     add-j
     loop-less
     loop-again

@@ -16,16 +16,16 @@ use Rattle.reading.proofs.filling.fill.Statement.{statement}
 use Rattle.reading.proofs.filling.fill.Tie as tie
 
 abbrev Inv-loop : tie.InvT-loop
-Inv-loop n darts h rows lambda delta level table₀ stop₀ total₀ since₀ i d₀ i-end table stop total since d = (d ≤ darts) × (i < i-end) × Filled (n .0) darts (h .0) rows lambda delta (level .0) i d total (since .0) table × (stop ≡ Nowhere)
+Inv-loop sizes rows lambda delta level table₀ darts stop₀ total₀ since₀ i d₀ i-end table stop total since d = (d ≤ darts) × (i < i-end) × Filled (sizes .n .0) (sizes .darts) (sizes .h .0) rows lambda delta (level .0) i d total (since .0) table × (stop ≡ Nowhere)
 
 abbrev μ-loop : tie.MeasureT-loop
-μ-loop n darts h rows lambda delta level table₀ stop₀ total₀ since₀ i d₀ i-end table stop total since d = darts - d
+μ-loop sizes rows lambda delta level table₀ darts stop₀ total₀ since₀ i d₀ i-end table stop total since d = darts - d
 
 abbrev Inv-rows : tie.InvT-rows
-Inv-rows n darts h rows lambda delta level table₀ stop₀ total₀ since₀ i₀ i-end table stop total since i = (i ≤ i-end) × Filled (n .0) darts (h .0) rows lambda delta (level .0) i 0 total (since .0) table × (stop ≡ Nowhere)
+Inv-rows sizes rows lambda delta level table₀ darts stop₀ total₀ since₀ i₀ i-end table stop total since i = (i ≤ i-end) × Filled (sizes .n .0) (sizes .darts) (sizes .h .0) rows lambda delta (level .0) i 0 total (since .0) table × (stop ≡ Nowhere)
 
 abbrev μ-rows : tie.MeasureT-rows
-μ-rows n darts h rows lambda delta level table₀ stop₀ total₀ since₀ i₀ i-end table stop total since i = i-end - i
+μ-rows sizes rows lambda delta level table₀ darts stop₀ total₀ since₀ i₀ i-end table stop total since i = i-end - i
 
 -- a level as a number
 abbrev number : Level → ℕ
@@ -33,37 +33,37 @@ number l = l .0
 
 -- where the function starts, from a turn of the inner loop
 abbrev start : tie.In-loop Inv-loop μ-loop Inv-rows μ-rows → tie.Start Inv-loop μ-loop Inv-rows μ-rows
-start c = c .before .before .before .before .before .before .before .before .before
+start c = c .before .before .before .before .before .before .before .before .before .before
 
 -- a turn of the inner loop, from where the entry read is a dart
 abbrev turn : tie.Else2 Inv-loop μ-loop Inv-rows μ-rows → tie.In-loop Inv-loop μ-loop Inv-rows μ-rows
 turn c = c .before .before .before .before .before
 
 -- the row is one of the map, the place lies in rows and table, and every number on the way is small
-place : (c : tie.In-loop Inv-loop μ-loop Inv-rows μ-rows) → let a = start c .args in let i = c .before .before .before .rows .i in let at = i * a .darts + c .before .loop .d in
-    (i ≤ a .n .0) × (i * a .darts ≤ 16384) × (at < 20480) × (at < length (now (a .rows))) × (at < length (c .before .loop .table)) × (c .before .loop .total ≤ 8193 * 20480)
+place : (c : tie.In-loop Inv-loop μ-loop Inv-rows μ-rows) → let a = start c .args in let i = c .before .before .before .rows .i in let at = i * a .sizes .darts + c .before .loop .d in
+    (i ≤ a .sizes .n .0) × (i * a .sizes .darts ≤ 16384) × (at < 20480) × (at < length (now (a .rows))) × (at < length (c .before .loop .table)) × (c .before .loop .total ≤ 8193 * 20480)
 place c =
     let a = start c .args in
     let p = start c .pre .0 .lent in
     let i = c .before .before .before .rows .i in
-    let li : i ≤ a .n .0 = omega (arith, c .before .loop .inv .1) in
-    let z = table-size (a .n .0) (a .darts) i (p .dimension) (p .darts) li in
-    let y = in-table (a .n .0) (a .darts) i (c .before .loop .d) li (c .loop-test .taken) in
+    let li : i ≤ a .sizes .n .0 = omega (arith, c .before .loop .inv .1) in
+    let z = table-size (a .sizes .n .0) (a .sizes .darts) i (p .dimension) (p .darts) li in
+    let y = in-table (a .sizes .n .0) (a .sizes .darts) i (c .before .loop .d) li (c .loop-test .taken) in
     let s = c .before .loop .inv .2 in
     (li, z .0, omega arith, omega (arith, p .rows-length), omega (arith, s .size), omega (arith, s .small))
 
 -- the walk of the dart by the row begins
 first : (c : tie.In-loop Inv-loop μ-loop Inv-rows μ-rows) → let a = start c .args in let i = c .before .before .before .rows .i in let d = c .before .loop .d in
-    Next (now (a .rows)) (now (a .lambda)) (now (a .delta)) (a .n .0) (a .darts) (a .h .0) (a .level .0) i d i d 0 0
+    Next (now (a .rows)) (now (a .lambda)) (now (a .delta)) (a .sizes .n .0) (a .sizes .darts) (a .sizes .h .0) (a .level .0) i d i d 0 0
 first c =
     let a = start c .args in
-    next-first (now (a .rows)) (now (a .lambda)) (now (a .delta)) (a .n .0) (a .darts) (a .h .0) (a .level .0) (c .before .before .before .rows .i) (c .before .loop .d) (place c .0) (c .loop-test .taken)
+    next-first (now (a .rows)) (now (a .lambda)) (now (a .delta)) (a .sizes .n .0) (a .sizes .darts) (a .sizes .h .0) (a .level .0) (c .before .before .before .rows .i) (c .before .loop .d) (place c .0) (c .loop-test .taken)
 
 add-i-end : tie.Need-add-i-end Inv-loop μ-loop Inv-rows μ-rows
 add-i-end c = search needs
 
 rows-holds : tie.Need-rows-holds Inv-loop μ-loop Inv-rows μ-rows
-rows-holds c = let a = c .before .before .before .before .before .args in (zero-le, filled-none (a .n .0) (a .darts) (a .h .0) (now (a .rows)) (now (a .lambda)) (now (a .delta)) (a .level .0) (c .before .before .before .before .before .pre .1), refl)
+rows-holds c = let a = c .before .before .before .before .before .before .args in (zero-le, filled-none (a .sizes .n .0) (a .sizes .darts) (a .sizes .h .0) (now (a .rows)) (now (a .lambda)) (now (a .delta)) (a .level .0) (c .before .before .before .before .before .before .pre .1), refl)
 
 loop-holds : tie.Need-loop-holds Inv-loop μ-loop Inv-rows μ-rows
 loop-holds c = let v = c .before .rows .inv in (zero-le, c .rows-test .taken, v .1, v .2)
@@ -71,11 +71,14 @@ loop-holds c = let v = c .before .rows .inv in (zero-le, c .rows-test .taken, v 
 cast-place : tie.Need-cast-place Inv-loop μ-loop Inv-rows μ-rows
 cast-place c = search needs
 
+cast-place-2 : tie.Need-cast-place-2 Inv-loop μ-loop Inv-rows μ-rows
+cast-place-2 c = omega (arith, start c .pre .0 .lent .darts)
+
 mul-place : tie.Need-mul-place Inv-loop μ-loop Inv-rows μ-rows
 mul-place c = omega (arith, place c)
 
-cast-place-2 : tie.Need-cast-place-2 Inv-loop μ-loop Inv-rows μ-rows
-cast-place-2 c = search needs
+cast-place-3 : tie.Need-cast-place-3 Inv-loop μ-loop Inv-rows μ-rows
+cast-place-3 c = search needs
 
 add-place : tie.Need-add-place Inv-loop μ-loop Inv-rows μ-rows
 add-place c = omega (arith, place c)
@@ -130,7 +133,8 @@ slice-write-table-3 c = omega (arith, place (turn (c .before .before .before .be
 add-total-2 : tie.Need-add-total-2 Inv-loop μ-loop Inv-rows μ-rows
 add-total-2 c =
     let f = rw (c .before .before .end .given .1) at (c .before .before .before .before .onward .ensures) in
-    omega (arith, place (turn (c .before .before .before .before .before .before .before .before)), f .few)
+    let t = turn (c .before .before .before .before .before .before .before .before) in
+    omega (arith, place t, f .few, start t .pre .0 .lent .darts)
 
 later-requires : tie.Need-later-requires Inv-loop μ-loop Inv-rows μ-rows
 later-requires c κs = search needs
@@ -150,7 +154,7 @@ loop-again c =
     let a = start t .args in
     let p = start t .pre .0 in
     let v = t .before .loop .inv in
-    let e = entry (a .darts) (now (a .rows)) (t .before .before .before .rows .i) (t .before .loop .d) in (
+    let e = entry (a .sizes .darts) (now (a .rows)) (t .before .before .before .rows .i) (t .before .loop .d) in (
       omega arith,
       v .1,
       ⊎-elim
@@ -206,8 +210,9 @@ fill-spec =
     rows-holds
     loop-holds
     cast-place
-    mul-place
     cast-place-2
+    mul-place
+    cast-place-3
     add-place
     cast-if1
     shared-slice-read-if1

@@ -15,19 +15,19 @@ use Rattle.reading.proofs.filling.onward.Tie as tie
 
 -- n and h are no locals of the loop, so it holds for any
 abbrev Inv-loop : tie.InvT-loop
-Inv-loop darts rows lambda delta level involution dart met most t₀ from₀ count₀ largest₀ t from count largest =
-    (largest < level .0) × ((n h : ℕ) → Allowed n darts h rows lambda delta (level .0) → Meets darts rows lambda (level .0) n (involution .0) dart met → Met rows lambda delta n darts h (level .0) (involution .0) dart (t .0) from count (largest + 1))
+Inv-loop rows lambda delta asked met darts most level involution t₀ from₀ count₀ largest₀ t from count largest =
+    (largest < asked .level .0) × ((n h : ℕ) → Allowed n darts h rows lambda delta (asked .level .0) → Meets darts rows lambda (asked .level .0) n (asked .involution .0) (asked .dart) met → Met rows lambda delta n darts h (asked .level .0) (asked .involution .0) (asked .dart) (t .0) from count (largest + 1))
 
 abbrev μ-loop : tie.MeasureT-loop
-μ-loop darts rows lambda delta level involution dart met most t₀ from₀ count₀ largest₀ t from count largest = 1 + 2 * darts - count
+μ-loop rows lambda delta asked met darts most level involution t₀ from₀ count₀ largest₀ t from count largest = 1 + 2 * darts - count
 
 -- where the function starts, from the loop
 abbrev start : tie.At-loop Inv-loop μ-loop → tie.Start Inv-loop μ-loop
-start c = c .before .before .before .before .before
+start c = c .before .before .before .before .before .before .before
 
 -- the dart met
-met-here : (c : tie.At-loop Inv-loop μ-loop) → let a = start c .args in Met (now (a .rows)) (now (a .lambda)) (now (a .delta)) (a .n .0) (a .darts) (a .h .0) (a .level .0) (a .involution .0) (a .dart) (c .loop .t .0) (c .loop .from) (c .loop .count) (c .loop .largest + 1)
-met-here c = let a = start c .args in c .loop .inv .1 (a .n .0) (a .h .0) (start c .pre .0) (start c .pre .1)
+met-here : (c : tie.At-loop Inv-loop μ-loop) → let a = start c .args in Met (now (a .rows)) (now (a .lambda)) (now (a .delta)) (a .sizes .n .0) (a .sizes .darts) (a .sizes .h .0) (a .asked .level .0) (a .asked .involution .0) (a .asked .dart) (c .loop .t .0) (c .loop .from) (c .loop .count) (c .loop .largest + 1)
+met-here c = let a = start c .args in c .loop .inv .1 (a .sizes .n .0) (a .sizes .h .0) (start c .pre .0) (start c .pre .1)
 
 -- how the walk goes on
 goes : (c : tie.After-across Inv-loop μ-loop) → let b = c .before .before .before .before in Goes (each (now (start b .args .delta)) (b .loop .from)) (b .loop .t .0) (By (c .across .given .0 .0))
@@ -43,28 +43,31 @@ row c = c .before .before .across .given .0 .0 .0
 
 -- the dart met is passed, and the row on the other side is read next
 next : (c : tie.Else1 Inv-loop μ-loop) (n h : ℕ) → let b = turn c in let a = start b .args in
-    Allowed n (a .darts) h (now (a .rows)) (now (a .lambda)) (now (a .delta)) (a .level .0) → Meets (a .darts) (now (a .rows)) (now (a .lambda)) (a .level .0) n (a .involution .0) (a .dart) (a .met)
-    → Next (now (a .rows)) (now (a .lambda)) (now (a .delta)) n (a .darts) h (a .level .0) (a .involution .0) (a .dart) (row c) (b .loop .from) (b .loop .count) (b .loop .largest + 1)
+    Allowed n (a .sizes .darts) h (now (a .rows)) (now (a .lambda)) (now (a .delta)) (a .asked .level .0) → Meets (a .sizes .darts) (now (a .rows)) (now (a .lambda)) (a .asked .level .0) n (a .asked .involution .0) (a .asked .dart) (a .met)
+    → Next (now (a .rows)) (now (a .lambda)) (now (a .delta)) n (a .sizes .darts) h (a .asked .level .0) (a .asked .involution .0) (a .asked .dart) (row c) (b .loop .from) (b .loop .count) (b .loop .largest + 1)
 next c n h p m = let g = goes (c .before .before) in met-passes p (turn c .loop .inv .1 n h p m) (g .0) (c .if1 .left) (g .1)
 
 next-here : (c : tie.Else1 Inv-loop μ-loop) → let b = turn c in let a = start b .args in
-    Next (now (a .rows)) (now (a .lambda)) (now (a .delta)) (a .n .0) (a .darts) (a .h .0) (a .level .0) (a .involution .0) (a .dart) (row c) (b .loop .from) (b .loop .count) (b .loop .largest + 1)
-next-here c = let b = turn c in next c (start b .args .n .0) (start b .args .h .0) (start b .pre .0) (start b .pre .1)
+    Next (now (a .rows)) (now (a .lambda)) (now (a .delta)) (a .sizes .n .0) (a .sizes .darts) (a .sizes .h .0) (a .asked .level .0) (a .asked .involution .0) (a .asked .dart) (row c) (b .loop .from) (b .loop .count) (b .loop .largest + 1)
+next-here c = let b = turn c in next c (start b .args .sizes .n .0) (start b .args .sizes .h .0) (start b .pre .0) (start b .pre .1)
+
+cast-most : tie.Need-cast-most Inv-loop μ-loop
+cast-most c = omega (arith, c .before .before .before .pre .0 .lent .darts)
 
 mul-most : tie.Need-mul-most Inv-loop μ-loop
-mul-most c = search needs
+mul-most c = omega (arith, c .before .before .before .pre .0 .lent .darts)
 
 add-most : tie.Need-add-most Inv-loop μ-loop
-add-most c = search needs
+add-most c = omega (arith, c .before .before .before .pre .0 .lent .darts)
 
 shared-slice-read-largest : tie.Need-shared-slice-read-largest Inv-loop μ-loop
-shared-slice-read-largest c = let p = c .before .before .before .before .pre in omega (arith, p .1 .dart, p .0 .lent .lambda-length)
+shared-slice-read-largest c = let p = c .before .before .before .before .before .before .pre in omega (arith, p .1 .dart, p .0 .lent .lambda-length)
 
 cast-largest : tie.Need-cast-largest Inv-loop μ-loop
 cast-largest c = search needs
 
 loop-holds : tie.Need-loop-holds Inv-loop μ-loop
-loop-holds c = (c .before .before .before .before .pre .1 .gone, λ n h p m. met-first (now (c .before .before .before .before .args .delta)) h m)
+loop-holds c = (c .before .before .before .before .before .before .pre .1 .gone, λ n h p m. met-first (now (c .before .before .before .before .before .before .args .delta)) h m)
 
 shared-slice-read-own : tie.Need-shared-slice-read-own Inv-loop μ-loop
 shared-slice-read-own c = omega (arith, met-here (c .before) .meets .dart, start (c .before) .pre .0 .lent .delta-length)
@@ -78,8 +81,8 @@ enum-known-across c = search needs
 enum-told : tie.Need-enum-told Inv-loop μ-loop
 enum-told c = search needs
 
-cast-t28 : tie.Need-cast-t28 Inv-loop μ-loop
-cast-t28 c = omega (arith, met-here (c .before .before .before .before) .meets .dart)
+cast-t27 : tie.Need-cast-t27 Inv-loop μ-loop
+cast-t27 c = omega (arith, met-here (c .before .before .before .before) .meets .dart)
 
 returns : tie.Need-returns Inv-loop μ-loop
 returns c =
@@ -90,7 +93,7 @@ returns-2 : tie.Need-returns-2 Inv-loop μ-loop
 returns-2 c =
     let b = c .before .before .before .before .before .before in
     let a = start b .args in
-    record { number = 15; row = a .involution .0; dart = a .dart; is = met-long (start b .pre .0) (met-here b) (goes (c .before .before) .0) (c .if1 .taken); said = refl }
+    record { number = 15; row = a .asked .involution .0; dart = a .asked .dart; is = met-long (start b .pre .0) (met-here b) (goes (c .before .before) .0) (c .if1 .taken); said = refl }
 
 cast-at : tie.Need-cast-at Inv-loop μ-loop
 cast-at c = omega (arith, next-here c .dart)
@@ -98,8 +101,8 @@ cast-at c = omega (arith, next-here c .dart)
 at-requires : tie.Need-at-requires Inv-loop μ-loop
 at-requires c κs = entry-fits (start (turn c) .pre .0 .lent) (next-here c .row) (next-here c .dart)
 
-cast-t33 : tie.Need-cast-t33 Inv-loop μ-loop
-cast-t33 c = cast-at (c .before .before)
+cast-t32 : tie.Need-cast-t32 Inv-loop μ-loop
+cast-t32 c = cast-at (c .before .before)
 
 returns-3 : tie.Need-returns-3 Inv-loop μ-loop
 returns-3 c =
@@ -115,11 +118,11 @@ cast-to c = search needs
 shared-slice-read-own-2 : tie.Need-shared-slice-read-own-2 Inv-loop μ-loop
 shared-slice-read-own-2 c = omega (arith, c .before .if2 .left, start (turn (c .before .before .before)) .pre .0 .lent .lambda-length)
 
-add-t36 : tie.Need-add-t36 Inv-loop μ-loop
-add-t36 c = omega (arith, turn (c .before .before .before .before .before) .loop .inv .0)
+add-t35 : tie.Need-add-t35 Inv-loop μ-loop
+add-t35 c = omega (arith, turn (c .before .before .before .before .before) .loop .inv .0)
 
-cast-t37 : tie.Need-cast-t37 Inv-loop μ-loop
-cast-t37 c = omega (arith, turn (c .before .before .before .before .before) .loop .inv .0)
+cast-t36 : tie.Need-cast-t36 Inv-loop μ-loop
+cast-t36 c = omega (arith, turn (c .before .before .before .before .before) .loop .inv .0)
 
 returns-4 : tie.Need-returns-4 Inv-loop μ-loop
 returns-4 c =
@@ -157,6 +160,7 @@ onward-spec =
     (tie.spec
     Inv-loop
     μ-loop
+    cast-most
     mul-most
     add-most
     shared-slice-read-largest
@@ -166,18 +170,18 @@ onward-spec =
     row-across-requires
     enum-known-across
     enum-told
-    cast-t28
+    cast-t27
     returns
     returns-2
     cast-at
     at-requires
-    cast-t33
+    cast-t32
     returns-3
     add-count
     cast-to
     shared-slice-read-own-2
-    add-t36
-    cast-t37
+    add-t35
+    cast-t36
     returns-4
     cast-larger
     larger-requires

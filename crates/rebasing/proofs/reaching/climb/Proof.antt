@@ -29,6 +29,9 @@ link-requires c κs = let b = c .before .before .before .before .before .pre .1 
 loop-holds : tie.Need-loop-holds Inv-loop μ-loop
 loop-holds c = (zero-le, λ h r. climb-none (r .base) refl)
 
+cast-t21 : tie.Need-cast-t21 Inv-loop μ-loop
+cast-t21 c = omega (arith, start (linked (c .before)) .pre .1 .base .darts)
+
 remove-requires : tie.Need-remove-requires Inv-loop μ-loop
 remove-requires c κs =
     let i = c .before .before in
@@ -60,6 +63,7 @@ climb-spec =
     (λ c. search needs)
     (λ c. search needs)
     (λ c. search needs)
+    cast-t21
     remove-requires
     (λ c. search needs)
     (λ c. search needs)
