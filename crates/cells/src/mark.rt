@@ -130,8 +130,8 @@ fn break_pieces(
     queue: &mut [u16; 4096],
 )
     requires { ⌜ ExplicitLevel (n .0) darts (now table) × ((d : ℕ) → has (now pieces) d ≡ false) × Room (now pieces) (now queue) ⌝ }
-    ensures { λ _. ⌜ Gathered (n .0) darts (now (table .entry)) (λ j. true) (λ d. present darts (now (table .entry)) d && has (now (reached .entry)) d) (has (now (pieces .exit))) darts ⌝ }
-    ensures { λ _. ⌜ Room (now (pieces .exit)) (now (queue .exit)) ⌝ }
+    ensures gathered { λ _. ⌜ Gathered (n .0) darts (now (table .entry)) (λ j. true) (λ d. present darts (now (table .entry)) d && has (now (reached .entry)) d) (has (now (pieces .exit))) darts ⌝ }
+    ensures room { λ _. ⌜ Room (now (pieces .exit)) (now (queue .exit)) ⌝ }
 {
     let choice = every_row();
     let choices = [choice; 4096];
@@ -209,8 +209,8 @@ fn mark_accepted(n: Dim, darts: u16, table: &[u16], dimension: Dim, out: &mut [u
 
 // Mark cells of one dimension δ on an explicit level: every δ-cell that is removable and falls into exactly two parts when a_δ and a_(δ+1) are both left out is marked; wherever that is every dart of a connected piece, the cell of its lowest dart is left unmarked; the rest get 255. After a refusal nothing lent has changed.
 pub fn mark_cells(n: Dim, darts: u16, table: &[u16], dimension: Dim, out: &mut [u8]) -> Check
-    ensures { λ r. ⌜ verdictOf r ≡ markLent (n .0) darts (now (table .entry)) (dimension .0) (now (out .entry)) ⌝ }
-    ensures { λ _. ⌜ MarkLeaves (n .0) darts (now (table .entry)) (dimension .0) (now (out .entry)) (markLent (n .0) darts (now (table .entry)) (dimension .0) (now (out .entry))) (now (out .exit)) ⌝ }
+    ensures verdict { λ r. ⌜ verdictOf r ≡ markLent (n .0) darts (now (table .entry)) (dimension .0) (now (out .entry)) ⌝ }
+    ensures marks_left { λ _. ⌜ MarkLeaves (n .0) darts (now (table .entry)) (dimension .0) (now (out .entry)) (markLent (n .0) darts (now (table .entry)) (dimension .0) (now (out .entry))) (now (out .exit)) ⌝ }
 {
     let fit = answers::both(
         answers::rows_fit(n, darts, table.len()),

@@ -70,8 +70,8 @@ pub fn check(
     delta: &[u8],
     table: &mut [u16],
 ) -> Check
-    ensures { λ r. ⌜ verdictOf r ≡ checkLent (n .0) darts (h .0) (now (rows .entry)) (now (lambda .entry)) (now (delta .entry)) (now (table .entry)) ⌝ }
-    ensures { λ _. ⌜ now (table .exit) ≡ checkLeaves (n .0) darts (h .0) (now (rows .entry)) (now (lambda .entry)) (now (delta .entry)) (now (table .entry)) ⌝ }
+    ensures verdict { λ r. ⌜ verdictOf r ≡ checkLent (n .0) darts (h .0) (now (rows .entry)) (now (lambda .entry)) (now (delta .entry)) (now (table .entry)) ⌝ }
+    ensures table_left { λ _. ⌜ now (table .exit) ≡ checkLeaves (n .0) darts (h .0) (now (rows .entry)) (now (lambda .entry)) (now (delta .entry)) (now (table .entry)) ⌝ }
 {
     if let Check::Refused(r) = lent(n, darts, h, rows, lambda, delta, table) {
         return Check::Refused(r);
@@ -209,8 +209,8 @@ fn delta_after(n: Dim, delta: Mark, mark: Mark) -> Mark
 // The mark row folded into Λ and Δ.
 fn fold_in(n: Dim, h: Level, row: &[u8], lambda: &mut [u8], delta: &mut [u8])
     requires { ⌜ (h .0 ≤ 32) × (length (now lambda) ≡ length (now row)) × (length (now delta) ≡ length (now row)) ⌝ }
-    ensures { λ _. ⌜ now (lambda .exit) ≡ listed (addΛ (n .0) (h .0) (each (now (lambda .entry))) (each (now (row .entry)))) (length (now (row .entry))) ⌝ }
-    ensures { λ _. ⌜ now (delta .exit) ≡ listed (addΔ (n .0) (each (now (delta .entry))) (each (now (row .entry)))) (length (now (row .entry))) ⌝ }
+    ensures lambda_left { λ _. ⌜ now (lambda .exit) ≡ listed (addΛ (n .0) (h .0) (each (now (lambda .entry))) (each (now (row .entry)))) (length (now (row .entry))) ⌝ }
+    ensures delta_left { λ _. ⌜ now (delta .exit) ≡ listed (addΔ (n .0) (each (now (delta .entry))) (each (now (row .entry)))) (length (now (row .entry))) ⌝ }
 {
     for d in 0..row.len() {
         let mark = Mark(row[d]);
@@ -242,8 +242,8 @@ fn folded(
     new_delta: &mut [u8],
 )
     requires { ⌜ (h .0 ≤ 32) × (length (now lambda) ≡ length (now row)) × (length (now delta) ≡ length (now row)) × (length (now «new_lambda») ≡ length (now row)) × (length (now «new_delta») ≡ length (now row)) ⌝ }
-    ensures { λ _. ⌜ now («new_lambda» .exit) ≡ listed (addΛ (n .0) (h .0) (each (now (lambda .entry))) (each (now (row .entry)))) (length (now (row .entry))) ⌝ }
-    ensures { λ _. ⌜ now («new_delta» .exit) ≡ listed (addΔ (n .0) (each (now (delta .entry))) (each (now (row .entry)))) (length (now (row .entry))) ⌝ }
+    ensures new_lambda_left { λ _. ⌜ now («new_lambda» .exit) ≡ listed (addΛ (n .0) (h .0) (each (now (lambda .entry))) (each (now (row .entry)))) (length (now (row .entry))) ⌝ }
+    ensures new_delta_left { λ _. ⌜ now («new_delta» .exit) ≡ listed (addΔ (n .0) (each (now (delta .entry))) (each (now (row .entry)))) (length (now (row .entry))) ⌝ }
 {
     copy_row(lambda, new_lambda);
     copy_row(delta, new_delta);
@@ -263,8 +263,8 @@ fn ascend(
 ) -> Check
     requires { ⌜ Base (n .0) darts (h .0) (now rows) (now lambda) (now delta) × (h .0 ≤ 32) × (length (now table) ≡ length (now rows)) ⌝ }
     requires { ⌜ (length (now row) ≡ darts) × Row (n .0) darts (h .0) (each (now lambda)) (each (now row)) ⌝ }
-    ensures { λ r. ⌜ verdictOf r ≡ ascends (n .0) darts (h .0) (now (rows .entry)) (now (lambda .entry)) (now (delta .entry)) (now (row .entry)) ⌝ }
-    ensures { λ _. ⌜ now (table .exit) ≡ ascendLeaves (n .0) darts (h .0) (now (rows .entry)) (now (lambda .entry)) (now (delta .entry)) (now (row .entry)) ⌝ }
+    ensures verdict { λ r. ⌜ verdictOf r ≡ ascends (n .0) darts (h .0) (now (rows .entry)) (now (lambda .entry)) (now (delta .entry)) (now (row .entry)) ⌝ }
+    ensures table_left { λ _. ⌜ now (table .exit) ≡ ascendLeaves (n .0) darts (h .0) (now (rows .entry)) (now (lambda .entry)) (now (delta .entry)) (now (row .entry)) ⌝ }
 {
     let width = darts as usize;
     let mut new_lambda = [0u8; 4096];
@@ -301,11 +301,11 @@ pub fn add(
     row: &[u8],
     table: &mut [u16],
 ) -> Added
-    ensures { λ r. ⌜ addedOf r ≡ addLent (n .0) darts (h .0) (now (rows .entry)) (now (lambda .entry)) (now (delta .entry)) (now (row .entry)) (now (table .entry)) ⌝ }
-    ensures { λ r. ⌜ heightOf (h .0) r ≡ addHeight (n .0) darts (h .0) (now (rows .entry)) (now (lambda .entry)) (now (delta .entry)) (now (row .entry)) (now (table .entry)) ⌝ }
-    ensures { λ _. ⌜ now (lambda .exit) ≡ addLambda (n .0) darts (h .0) (now (rows .entry)) (now (lambda .entry)) (now (delta .entry)) (now (row .entry)) (now (table .entry)) ⌝ }
-    ensures { λ _. ⌜ now (delta .exit) ≡ addDelta (n .0) darts (h .0) (now (rows .entry)) (now (lambda .entry)) (now (delta .entry)) (now (row .entry)) (now (table .entry)) ⌝ }
-    ensures { λ _. ⌜ now (table .exit) ≡ addLeaves (n .0) darts (h .0) (now (rows .entry)) (now (lambda .entry)) (now (delta .entry)) (now (row .entry)) (now (table .entry)) ⌝ }
+    ensures answer { λ r. ⌜ addedOf r ≡ addLent (n .0) darts (h .0) (now (rows .entry)) (now (lambda .entry)) (now (delta .entry)) (now (row .entry)) (now (table .entry)) ⌝ }
+    ensures height { λ r. ⌜ heightOf (h .0) r ≡ addHeight (n .0) darts (h .0) (now (rows .entry)) (now (lambda .entry)) (now (delta .entry)) (now (row .entry)) (now (table .entry)) ⌝ }
+    ensures lambda_left { λ _. ⌜ now (lambda .exit) ≡ addLambda (n .0) darts (h .0) (now (rows .entry)) (now (lambda .entry)) (now (delta .entry)) (now (row .entry)) (now (table .entry)) ⌝ }
+    ensures delta_left { λ _. ⌜ now (delta .exit) ≡ addDelta (n .0) darts (h .0) (now (rows .entry)) (now (lambda .entry)) (now (delta .entry)) (now (row .entry)) (now (table .entry)) ⌝ }
+    ensures table_left { λ _. ⌜ now (table .exit) ≡ addLeaves (n .0) darts (h .0) (now (rows .entry)) (now (lambda .entry)) (now (delta .entry)) (now (row .entry)) (now (table .entry)) ⌝ }
 {
     if let Check::Refused(r) = add_lent(n, darts, h, rows, lambda, delta, row, table) {
         return Added::Refused(r);

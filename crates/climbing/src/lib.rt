@@ -30,8 +30,8 @@ pub fn rise(
     table: &mut [u16],
 ) -> Check
     requires { ⌜ Base (n .0) darts (h .0) (now rows) (now lambda) (now delta) × (length (now table) ≡ length (now rows)) ⌝ }
-    ensures { λ r. ⌜ verdictOf r ≡ climbs (n .0) darts (h .0) (now (rows .entry)) (now (lambda .entry)) (now (delta .entry)) ⌝ }
-    ensures { λ _. ⌜ now (table .exit) ≡ climbLeaves (n .0) darts (h .0) (now (rows .entry)) (now (lambda .entry)) (now (delta .entry)) ⌝ }
+    ensures verdict { λ r. ⌜ verdictOf r ≡ climbs (n .0) darts (h .0) (now (rows .entry)) (now (lambda .entry)) (now (delta .entry)) ⌝ }
+    ensures table_left { λ _. ⌜ now (table .exit) ≡ climbLeaves (n .0) darts (h .0) (now (rows .entry)) (now (lambda .entry)) (now (delta .entry)) ⌝ }
 {
     climb_to(n, darts, h, h, rows, lambda, delta, table)
 }
@@ -48,8 +48,8 @@ pub fn climb_to(
     table: &mut [u16],
 ) -> Check
     requires { ⌜ Base (n .0) darts (h .0) (now rows) (now lambda) (now delta) × (level .0 ≤ h .0) × (length (now table) ≡ length (now rows)) ⌝ }
-    ensures { λ r. ⌜ verdictOf r ≡ climbsTo (n .0) darts (h .0) (now (rows .entry)) (now (lambda .entry)) (now (delta .entry)) (level .0) ⌝ }
-    ensures { λ _. ⌜ now (table .exit) ≡ climbToLeaves (n .0) darts (h .0) (now (rows .entry)) (now (lambda .entry)) (now (delta .entry)) (level .0) ⌝ }
+    ensures verdict { λ r. ⌜ verdictOf r ≡ climbsTo (n .0) darts (h .0) (now (rows .entry)) (now (lambda .entry)) (now (delta .entry)) (level .0) ⌝ }
+    ensures table_left { λ _. ⌜ now (table .exit) ≡ climbToLeaves (n .0) darts (h .0) (now (rows .entry)) (now (lambda .entry)) (now (delta .entry)) (level .0) ⌝ }
 {
     let mut head = [65535u16; 256];
     let mut next = [0u16; 4096];

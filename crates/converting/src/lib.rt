@@ -26,9 +26,9 @@ fn write_front(
     new: &mut [u8],
 ) -> Written
     requires { ⌜ (n .0 ≤ 4) × (darts ≤ 4096) × (suc (n .0) * darts ≤ length (now rows)) × (darts ≤ length (now lambda)) × (darts ≤ length (now delta)) × (suc (n .0) * darts ≤ length (now table)) ⌝ }
-    ensures { λ r. ⌜ writtenOf r ≡ writingOf (n .0) darts (h .0) (first (suc (n .0) * darts) (now (rows .entry))) (first darts (now (lambda .entry))) (first darts (now (delta .entry))) (first (suc (n .0) * darts) (now (table .entry))) (now (new .entry)) ⌝ }
-    ensures { λ _. ⌜ now (table .exit) ≡ writeTable (n .0) darts (h .0) (first (suc (n .0) * darts) (now (rows .entry))) (first darts (now (lambda .entry))) (first darts (now (delta .entry))) (first (suc (n .0) * darts) (now (table .entry))) (now (new .entry)) ++ drop (suc (n .0) * darts) (now (table .entry)) ⌝ }
-    ensures { λ _. ⌜ now (new .exit) ≡ writeLeaves (n .0) darts (h .0) (first (suc (n .0) * darts) (now (rows .entry))) (first darts (now (lambda .entry))) (first darts (now (delta .entry))) (first (suc (n .0) * darts) (now (table .entry))) (now (new .entry)) ⌝ }
+    ensures answer { λ r. ⌜ writtenOf r ≡ writingOf (n .0) darts (h .0) (first (suc (n .0) * darts) (now (rows .entry))) (first darts (now (lambda .entry))) (first darts (now (delta .entry))) (first (suc (n .0) * darts) (now (table .entry))) (now (new .entry)) ⌝ }
+    ensures table_left { λ _. ⌜ now (table .exit) ≡ writeTable (n .0) darts (h .0) (first (suc (n .0) * darts) (now (rows .entry))) (first darts (now (lambda .entry))) (first darts (now (delta .entry))) (first (suc (n .0) * darts) (now (table .entry))) (now (new .entry)) ++ drop (suc (n .0) * darts) (now (table .entry)) ⌝ }
+    ensures new_left { λ _. ⌜ now (new .exit) ≡ writeLeaves (n .0) darts (h .0) (first (suc (n .0) * darts) (now (rows .entry))) (first darts (now (lambda .entry))) (first darts (now (delta .entry))) (first (suc (n .0) * darts) (now (table .entry))) (now (new .entry)) ⌝ }
 {
     let width = darts as usize;
     let size = answers::entries(n, darts);
@@ -53,12 +53,12 @@ pub fn convert(
     table: &mut [u16],
     new: &mut [u8],
 ) -> Written
-    ensures { λ r. ⌜ writtenOf r ≡ converted (now (old .entry)) (now (rows .entry)) (now (lambda .entry)) (now (delta .entry)) (now (table .entry)) (now (new .entry)) ⌝ }
-    ensures { λ _. ⌜ now (rows .exit) ≡ takeRows (now (old .entry)) either (now (rows .entry)) (now (lambda .entry)) (now (delta .entry)) (now (table .entry)) ⌝ }
-    ensures { λ _. ⌜ now (lambda .exit) ≡ takeLambda (now (old .entry)) either (now (rows .entry)) (now (lambda .entry)) (now (delta .entry)) (now (table .entry)) ⌝ }
-    ensures { λ _. ⌜ now (delta .exit) ≡ takeDelta (now (old .entry)) either (now (rows .entry)) (now (lambda .entry)) (now (delta .entry)) (now (table .entry)) ⌝ }
-    ensures { λ _. ⌜ now (table .exit) ≡ takeTable (now (old .entry)) either (now (rows .entry)) (now (lambda .entry)) (now (delta .entry)) (now (table .entry)) ⌝ }
-    ensures { λ _. ⌜ now (new .exit) ≡ convertLeaves (now (old .entry)) (now (rows .entry)) (now (lambda .entry)) (now (delta .entry)) (now (table .entry)) (now (new .entry)) ⌝ }
+    ensures answer { λ r. ⌜ writtenOf r ≡ converted (now (old .entry)) (now (rows .entry)) (now (lambda .entry)) (now (delta .entry)) (now (table .entry)) (now (new .entry)) ⌝ }
+    ensures rows_left { λ _. ⌜ now (rows .exit) ≡ takeRows (now (old .entry)) either (now (rows .entry)) (now (lambda .entry)) (now (delta .entry)) (now (table .entry)) ⌝ }
+    ensures lambda_left { λ _. ⌜ now (lambda .exit) ≡ takeLambda (now (old .entry)) either (now (rows .entry)) (now (lambda .entry)) (now (delta .entry)) (now (table .entry)) ⌝ }
+    ensures delta_left { λ _. ⌜ now (delta .exit) ≡ takeDelta (now (old .entry)) either (now (rows .entry)) (now (lambda .entry)) (now (delta .entry)) (now (table .entry)) ⌝ }
+    ensures table_left { λ _. ⌜ now (table .exit) ≡ takeTable (now (old .entry)) either (now (rows .entry)) (now (lambda .entry)) (now (delta .entry)) (now (table .entry)) ⌝ }
+    ensures new_left { λ _. ⌜ now (new .exit) ≡ convertLeaves (now (old .entry)) (now (rows .entry)) (now (lambda .entry)) (now (delta .entry)) (now (table .entry)) (now (new .entry)) ⌝ }
 {
     match records::unpack(old, Allowed::Either, rows, lambda, delta, table) {
         Taken::Refused(r) => Written::Refused(r),

@@ -47,8 +47,8 @@ fn count_climbed(
     table: &mut [u16],
 ) -> [u16; 5]
     requires { ⌜ Accepted (n .0) darts (h .0) (now rows) (now lambda) (now delta) (now table) × (level .0 ≤ h .0) ⌝ }
-    ensures { λ r. ⌜ LevelCounted (n .0) darts (tableAt (n .0) darts (h .0) (now (rows .entry)) (now (lambda .entry)) (now (delta .entry)) (now (table .entry)) (level .0)) r ⌝ }
-    ensures { λ _. ⌜ now (table .exit) ≡ tableAt (n .0) darts (h .0) (now (rows .entry)) (now (lambda .entry)) (now (delta .entry)) (now (table .entry)) (level .0) ⌝ }
+    ensures counted { λ r. ⌜ LevelCounted (n .0) darts (tableAt (n .0) darts (h .0) (now (rows .entry)) (now (lambda .entry)) (now (delta .entry)) (now (table .entry)) (level .0)) r ⌝ }
+    ensures table_left { λ _. ⌜ now (table .exit) ≡ tableAt (n .0) darts (h .0) (now (rows .entry)) (now (lambda .entry)) (now (delta .entry)) (now (table .entry)) (level .0) ⌝ }
 {
     climbing::climb_to(n, darts as usize, h, level, rows, lambda, delta, table);
     count_level(n, darts, table)
@@ -65,8 +65,8 @@ fn count_levels(
     table: &mut [u16],
 ) -> [[u16; 5]; 33]
     requires { ⌜ Accepted (n .0) darts (h .0) (now rows) (now lambda) (now delta) (now table) ⌝ }
-    ensures { λ r. ⌜ Counted (n .0) darts (h .0) (now (rows .entry)) (now (lambda .entry)) (now (delta .entry)) r (h .0 + 1) ⌝ }
-    ensures { λ _. ⌜ now (table .exit) ≡ tableAt (n .0) darts (h .0) (now (rows .entry)) (now (lambda .entry)) (now (delta .entry)) (now (table .entry)) (h .0) ⌝ }
+    ensures counted { λ r. ⌜ Counted (n .0) darts (h .0) (now (rows .entry)) (now (lambda .entry)) (now (delta .entry)) r (h .0 + 1) ⌝ }
+    ensures table_left { λ _. ⌜ now (table .exit) ≡ tableAt (n .0) darts (h .0) (now (rows .entry)) (now (lambda .entry)) (now (delta .entry)) (now (table .entry)) (h .0) ⌝ }
 {
     let mut counts = zeros();
     for l in 0..h.0 + 1 {
@@ -89,9 +89,9 @@ pub fn census(
     cells: &mut [[u16; 5]; 33],
     sums: &mut [i32; 33],
 ) -> Check
-    ensures { λ r. ⌜ verdictOf r ≡ checkLent (n .0) darts (h .0) (now (rows .entry)) (now (lambda .entry)) (now (delta .entry)) (now (table .entry)) ⌝ }
-    ensures { λ _. ⌜ now (table .exit) ≡ checkLeaves (n .0) darts (h .0) (now (rows .entry)) (now (lambda .entry)) (now (delta .entry)) (now (table .entry)) ⌝ }
-    ensures { λ _. ⌜ CensusLeaves (n .0) darts (h .0) (now (rows .entry)) (now (lambda .entry)) (now (delta .entry)) (checkLent (n .0) darts (h .0) (now (rows .entry)) (now (lambda .entry)) (now (delta .entry)) (now (table .entry))) (now (cells .entry)) (now (sums .entry)) (now (cells .exit)) (now (sums .exit)) ⌝ }
+    ensures verdict { λ r. ⌜ verdictOf r ≡ checkLent (n .0) darts (h .0) (now (rows .entry)) (now (lambda .entry)) (now (delta .entry)) (now (table .entry)) ⌝ }
+    ensures table_left { λ _. ⌜ now (table .exit) ≡ checkLeaves (n .0) darts (h .0) (now (rows .entry)) (now (lambda .entry)) (now (delta .entry)) (now (table .entry)) ⌝ }
+    ensures counts { λ _. ⌜ CensusLeaves (n .0) darts (h .0) (now (rows .entry)) (now (lambda .entry)) (now (delta .entry)) (checkLent (n .0) darts (h .0) (now (rows .entry)) (now (lambda .entry)) (now (delta .entry)) (now (table .entry))) (now (cells .entry)) (now (sums .entry)) (now (cells .exit)) (now (sums .exit)) ⌝ }
 {
     if let Check::Refused(r) = checking::check(n, darts, h, rows, lambda, delta, table) {
         return Check::Refused(r);

@@ -51,9 +51,9 @@ pub fn census_into(
     cells: &mut [u16],
     sums: &mut [i32],
 ) -> Check
-    ensures { λ r. ⌜ verdictOf r ≡ censusLent (n .0) darts (h .0) (now (rows .entry)) (now (lambda .entry)) (now (delta .entry)) (now (table .entry)) (now (cells .entry)) (now (sums .entry)) ⌝ }
-    ensures { λ _. ⌜ now (table .exit) ≡ censusTable (n .0) darts (h .0) (now (rows .entry)) (now (lambda .entry)) (now (delta .entry)) (now (table .entry)) (now (cells .entry)) (now (sums .entry)) ⌝ }
-    ensures { λ _. ⌜ CensusPutLeaves (n .0) darts (h .0) (now (rows .entry)) (now (lambda .entry)) (now (delta .entry)) (censusLent (n .0) darts (h .0) (now (rows .entry)) (now (lambda .entry)) (now (delta .entry)) (now (table .entry)) (now (cells .entry)) (now (sums .entry))) (now (cells .entry)) (now (sums .entry)) (now (cells .exit)) (now (sums .exit)) ⌝ }
+    ensures verdict { λ r. ⌜ verdictOf r ≡ censusLent (n .0) darts (h .0) (now (rows .entry)) (now (lambda .entry)) (now (delta .entry)) (now (table .entry)) (now (cells .entry)) (now (sums .entry)) ⌝ }
+    ensures table_left { λ _. ⌜ now (table .exit) ≡ censusTable (n .0) darts (h .0) (now (rows .entry)) (now (lambda .entry)) (now (delta .entry)) (now (table .entry)) (now (cells .entry)) (now (sums .entry)) ⌝ }
+    ensures counts_left { λ _. ⌜ CensusPutLeaves (n .0) darts (h .0) (now (rows .entry)) (now (lambda .entry)) (now (delta .entry)) (censusLent (n .0) darts (h .0) (now (rows .entry)) (now (lambda .entry)) (now (delta .entry)) (now (table .entry)) (now (cells .entry)) (now (sums .entry))) (now (cells .entry)) (now (sums .entry)) (now (cells .exit)) (now (sums .exit)) ⌝ }
 {
     if !answers::both(cells.len() == 165, sums.len() == 33) {
         return answers::lent(n, darts, h, false);

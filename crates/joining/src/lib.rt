@@ -73,8 +73,8 @@ fn climb(
     level: Level,
 ) -> Check
     requires { ⌜ Checked (n .0) darts (h .0) (now rows) (now lambda) (now delta) (level .0) × (length (now table) ≡ length (now rows)) ⌝ }
-    ensures { λ r. ⌜ verdictOf r ≡ joinedVerdict (n .0) darts (h .0) (now (rows .entry)) (now (lambda .entry)) (now (delta .entry)) (level .0) ⌝ }
-    ensures { λ _. ⌜ now (table .exit) ≡ joinedLeaves (n .0) darts (h .0) (now (rows .entry)) (now (lambda .entry)) (now (delta .entry)) (level .0) ⌝ }
+    ensures verdict { λ r. ⌜ verdictOf r ≡ joinedVerdict (n .0) darts (h .0) (now (rows .entry)) (now (lambda .entry)) (now (delta .entry)) (level .0) ⌝ }
+    ensures table_left { λ _. ⌜ now (table .exit) ≡ joinedLeaves (n .0) darts (h .0) (now (rows .entry)) (now (lambda .entry)) (now (delta .entry)) (level .0) ⌝ }
 {
     let width = darts as usize;
     let lower = Level(h.0 - 1);
@@ -94,10 +94,10 @@ pub fn join(
     table: &mut [u16],
     level: Level,
 ) -> Joined
-    ensures { λ r. ⌜ joinedOf r ≡ joinLent (n .0) darts (h .0) (now (rows .entry)) (now (lambda .entry)) (now (delta .entry)) (now (table .entry)) (level .0) ⌝ }
-    ensures { λ r. ⌜ heightOf (h .0) r ≡ joinHeight (n .0) darts (h .0) (now (rows .entry)) (now (lambda .entry)) (now (delta .entry)) (now (table .entry)) (level .0) ⌝ }
-    ensures { λ _. ⌜ now (lambda .exit) ≡ joinLambda (n .0) darts (h .0) (now (rows .entry)) (now (lambda .entry)) (now (delta .entry)) (now (table .entry)) (level .0) ⌝ }
-    ensures { λ _. ⌜ now (table .exit) ≡ joinLeaves (n .0) darts (h .0) (now (rows .entry)) (now (lambda .entry)) (now (delta .entry)) (now (table .entry)) (level .0) ⌝ }
+    ensures answer { λ r. ⌜ joinedOf r ≡ joinLent (n .0) darts (h .0) (now (rows .entry)) (now (lambda .entry)) (now (delta .entry)) (now (table .entry)) (level .0) ⌝ }
+    ensures height { λ r. ⌜ heightOf (h .0) r ≡ joinHeight (n .0) darts (h .0) (now (rows .entry)) (now (lambda .entry)) (now (delta .entry)) (now (table .entry)) (level .0) ⌝ }
+    ensures lambda_left { λ _. ⌜ now (lambda .exit) ≡ joinLambda (n .0) darts (h .0) (now (rows .entry)) (now (lambda .entry)) (now (delta .entry)) (now (table .entry)) (level .0) ⌝ }
+    ensures table_left { λ _. ⌜ now (table .exit) ≡ joinLeaves (n .0) darts (h .0) (now (rows .entry)) (now (lambda .entry)) (now (delta .entry)) (now (table .entry)) (level .0) ⌝ }
 {
     if let Check::Refused(r) = checking::check(n, darts, h, rows, lambda, delta, table) {
         return Joined::Refused(r);

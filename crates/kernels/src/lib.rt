@@ -35,8 +35,8 @@ pub fn step(
 ) -> Check
     requires { ⌜ Tested (kernel .n .0) (kernel .darts) (kernelRow (now lambda) (now delta) (kernel .level .0)) (now table) ⌝ }
     requires { ⌜ Strung (kernel .n .0) (kernel .darts) (kernel .level .0) (kernel .first) (now lambda) (now delta) (now next) ⌝ }
-    ensures { λ r. ⌜ verdictOf r ≡ checkKernel (entry (kernel .darts) (now (table .entry))) (kernel .n .0) (kernel .darts) (kernelRow (now (lambda .entry)) (now (delta .entry)) (kernel .level .0)) (kernel .level .0) ⌝ }
-    ensures { λ _. ⌜ now (table .exit) ≡ stepLeaves (kernel .n .0) (kernel .darts) (kernel .level .0) (kernelRow (now (lambda .entry)) (now (delta .entry)) (kernel .level .0)) (now (table .entry)) ⌝ }
+    ensures verdict { λ r. ⌜ verdictOf r ≡ checkKernel (entry (kernel .darts) (now (table .entry))) (kernel .n .0) (kernel .darts) (kernelRow (now (lambda .entry)) (now (delta .entry)) (kernel .level .0)) (kernel .level .0) ⌝ }
+    ensures table_left { λ _. ⌜ now (table .exit) ≡ stepLeaves (kernel .n .0) (kernel .darts) (kernel .level .0) (kernelRow (now (lambda .entry)) (now (delta .entry)) (kernel .level .0)) (now (table .entry)) ⌝ }
 {
     if let Check::Refused(r) = whole(kernel, lambda, delta, next, table) {
         return Check::Refused(r);

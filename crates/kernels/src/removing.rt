@@ -87,8 +87,8 @@ fn relink(
 ) -> usize
     requires { ⌜ Ready (kernel .n .0) (kernel .darts) (kernelRow (now lambda) (now delta) (kernel .level .0)) (now table) ⌝ }
     requires { ⌜ Strung (kernel .n .0) (kernel .darts) (kernel .level .0) (kernel .first) (now lambda) (now delta) (now next) ⌝ }
-    ensures { λ r. ⌜ r ≡ linksMade (kernel .n .0) (kernel .darts) (kernelRow (now (lambda .entry)) (now (delta .entry)) (kernel .level .0)) (now (table .entry)) ⌝ }
-    ensures { λ _. ⌜ TableIs (kernel .darts) (relinked (kernel .n .0) (kernel .darts) (kernelRow (now (lambda .entry)) (now (delta .entry)) (kernel .level .0)) (now (table .entry))) (now (table .entry)) (now (table .exit)) ⌝ }
+    ensures answer { λ r. ⌜ r ≡ linksMade (kernel .n .0) (kernel .darts) (kernelRow (now (lambda .entry)) (now (delta .entry)) (kernel .level .0)) (now (table .entry)) ⌝ }
+    ensures table_left { λ _. ⌜ TableIs (kernel .darts) (relinked (kernel .n .0) (kernel .darts) (kernelRow (now (lambda .entry)) (now (delta .entry)) (kernel .level .0)) (now (table .entry))) (now (table .entry)) (now (table .exit)) ⌝ }
 {
     let n = kernel.n;
     let darts = kernel.darts as usize;

@@ -61,8 +61,8 @@ fn alternates(darts: u16, rows: &[u16]) -> bool
 // The edge partner of d is half of what a0 takes 2d to, its vertex successor half of what a1 takes 2d+1 to.
 fn take_rows(darts: u16, rows: &[u16], edges: &mut [u16], vertices: &mut [u16])
     requires { ⌜ Rows 2 darts (now rows) × (length (now edges) ≡ darts / 2) × (length (now vertices) ≡ darts / 2) ⌝ }
-    ensures { λ _. ⌜ now (edges .exit) ≡ listed (edgeOf (entry darts (now (rows .entry)))) (darts / 2) ⌝ }
-    ensures { λ _. ⌜ now (vertices .exit) ≡ listed (vertexOf (entry darts (now (rows .entry)))) (darts / 2) ⌝ }
+    ensures edges_left { λ _. ⌜ now (edges .exit) ≡ listed (edgeOf (entry darts (now (rows .entry)))) (darts / 2) ⌝ }
+    ensures vertices_left { λ _. ⌜ now (vertices .exit) ≡ listed (vertexOf (entry darts (now (rows .entry)))) (darts / 2) ⌝ }
 {
     for d in 0..darts / 2 {
         let place = d as usize;

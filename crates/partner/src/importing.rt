@@ -121,8 +121,8 @@ fn put_pair(even: u16, place: usize, rows: &mut [u16])
 // "a0 takes 2d to twice the edge partner plus 1, and 2d+1 to twice the edge partner."
 fn put_edges(darts: u16, edges: &[u16], rows: &mut [u16])
     requires { ⌜ Row darts (now edges) × (darts ≤ 2048) × (length (now rows) ≡ 6 * darts) ⌝ }
-    ensures { λ _. ⌜ Pairs darts 0 (λ d. 2 * each (now (edges .entry)) d) (now (rows .exit)) ⌝ }
-    ensures { λ _. ⌜ Kept darts 0 (now (rows .entry)) (now (rows .exit)) ⌝ }
+    ensures written { λ _. ⌜ Pairs darts 0 (λ d. 2 * each (now (edges .entry)) d) (now (rows .exit)) ⌝ }
+    ensures kept { λ _. ⌜ Kept darts 0 (now (rows .entry)) (now (rows .exit)) ⌝ }
 {
     for d in 0..darts {
         let from = d as usize;
@@ -134,8 +134,8 @@ fn put_edges(darts: u16, edges: &[u16], rows: &mut [u16])
 fn put_vertices(darts: u16, vertices: &[u16], rows: &mut [u16])
     requires { ⌜ Row darts (now vertices) × (darts ≤ 2048) × (length (now rows) ≡ 6 * darts)
         × ((d e : ℕ) → d < darts → e < darts → each (now vertices) d ≡ each (now vertices) e → d ≡ e) ⌝ }
-    ensures { λ _. ⌜ Turns darts (2 * darts) (each (now (vertices .entry))) (now (rows .exit)) ⌝ }
-    ensures { λ _. ⌜ Kept darts (2 * darts) (now (rows .entry)) (now (rows .exit)) ⌝ }
+    ensures written { λ _. ⌜ Turns darts (2 * darts) (each (now (vertices .entry))) (now (rows .exit)) ⌝ }
+    ensures kept { λ _. ⌜ Kept darts (2 * darts) (now (rows .entry)) (now (rows .exit)) ⌝ }
 {
     let start = 2 * darts as usize;
     for d in 0..darts {
@@ -151,8 +151,8 @@ fn put_vertices(darts: u16, vertices: &[u16], rows: &mut [u16])
 // "These two are a2-neighbours."
 fn put_sides(darts: u16, rows: &mut [u16])
     requires { ⌜ (darts ≤ 2048) × (length (now rows) ≡ 6 * darts) ⌝ }
-    ensures { λ _. ⌜ Pairs darts (4 * darts) (λ d. 2 * d) (now (rows .exit)) ⌝ }
-    ensures { λ _. ⌜ Kept darts (4 * darts) (now (rows .entry)) (now (rows .exit)) ⌝ }
+    ensures written { λ _. ⌜ Pairs darts (4 * darts) (λ d. 2 * d) (now (rows .exit)) ⌝ }
+    ensures kept { λ _. ⌜ Kept darts (4 * darts) (now (rows .entry)) (now (rows .exit)) ⌝ }
 {
     let start = 4 * darts as usize;
     for d in 0..darts {
@@ -163,8 +163,8 @@ fn put_sides(darts: u16, rows: &mut [u16])
 
 // Bring in a 2D combinatorial map of M darts. All is tested before an entry is written.
 pub fn import(darts: u16, edges: &[u16], vertices: &[u16], rows: &mut [u16]) -> Check
-    ensures { λ r. ⌜ verdictOf r ≡ importLent darts (now (edges .entry)) (now (vertices .entry)) (now (rows .entry)) ⌝ }
-    ensures { λ _. ⌜ ImportLeaves darts (now (edges .entry)) (now (vertices .entry)) (now (rows .entry)) (importLent darts (now (edges .entry)) (now (vertices .entry)) (now (rows .entry))) (now (rows .exit)) ⌝ }
+    ensures verdict { λ r. ⌜ verdictOf r ≡ importLent darts (now (edges .entry)) (now (vertices .entry)) (now (rows .entry)) ⌝ }
+    ensures rows_left { λ _. ⌜ ImportLeaves darts (now (edges .entry)) (now (vertices .entry)) (now (rows .entry)) (importLent darts (now (edges .entry)) (now (vertices .entry)) (now (rows .entry))) (now (rows .exit)) ⌝ }
 {
     if let Check::Refused(r) = sizes(darts, edges.len(), vertices.len(), rows.len()) {
         return Check::Refused(r);

@@ -166,9 +166,9 @@ pub fn fill(
 
 // The answer of the walks of a level.
 pub fn answer(level: Level, walks: Walks) -> Total
-    ensures { λ r. ⌜ checkOf r ≡ stopOf (level .0) (walks .stop) ⌝ }
-    ensures { λ r. ⌜ totalOf r ≡ ifAccepted (stopOf (level .0) (walks .stop)) (walks .total) 0 ⌝ }
-    ensures { λ r. ⌜ latestOf r ≡ ifAccepted (stopOf (level .0) (walks .stop)) (walks .since .0) 0 ⌝ }
+    ensures verdict { λ r. ⌜ checkOf r ≡ stopOf (level .0) (walks .stop) ⌝ }
+    ensures total { λ r. ⌜ totalOf r ≡ ifAccepted (stopOf (level .0) (walks .stop)) (walks .total) 0 ⌝ }
+    ensures since { λ r. ⌜ latestOf r ≡ ifAccepted (stopOf (level .0) (walks .stop)) (walks .since .0) 0 ⌝ }
 {
     let stop = walks.stop;
     let since = walks.since;

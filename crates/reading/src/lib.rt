@@ -60,8 +60,8 @@ pub(crate) fn later(one: Level, other: Level) -> Level
 // The direct walk of a dart: at each read 5 and 8; then the dart met is on the level, or 14, or 15, or it is passed.
 fn walk(sizes: Sizes, rows: &[u16], lambda: &[u8], delta: &[u8], asked: Question) -> Reading
     requires { ⌜ Lent (sizes .n .0) (sizes .darts) (sizes .h .0) (now rows) (now lambda) (now delta) (asked .level .0) × (asked .involution .0 ≤ sizes .n .0) × (asked .dart < sizes .darts) ⌝ }
-    ensures { λ r. ⌜ valueOf r ≡ readingOf (asked .level .0) (walkOf (entry (sizes .darts) (now (rows .entry))) (sizes .n .0) (sizes .darts) (sizes .h .0) (each (now (lambda .entry))) (each (now (delta .entry))) (asked .level .0) (asked .involution .0) (asked .dart)) ⌝ }
-    ensures { λ r. ⌜ standsSince r ≡ ifFound (readingOf (asked .level .0) (walkOf (entry (sizes .darts) (now (rows .entry))) (sizes .n .0) (sizes .darts) (sizes .h .0) (each (now (lambda .entry))) (each (now (delta .entry))) (asked .level .0) (asked .involution .0) (asked .dart))) (sinceOf (entry (sizes .darts) (now (rows .entry))) (sizes .darts) (each (now (lambda .entry))) (each (now (delta .entry))) (asked .level .0) (asked .involution .0) (asked .dart)) ⌝ }
+    ensures answer { λ r. ⌜ valueOf r ≡ readingOf (asked .level .0) (walkOf (entry (sizes .darts) (now (rows .entry))) (sizes .n .0) (sizes .darts) (sizes .h .0) (each (now (lambda .entry))) (each (now (delta .entry))) (asked .level .0) (asked .involution .0) (asked .dart)) ⌝ }
+    ensures since { λ r. ⌜ standsSince r ≡ ifFound (readingOf (asked .level .0) (walkOf (entry (sizes .darts) (now (rows .entry))) (sizes .n .0) (sizes .darts) (sizes .h .0) (each (now (lambda .entry))) (each (now (delta .entry))) (asked .level .0) (asked .involution .0) (asked .dart))) (sinceOf (entry (sizes .darts) (now (rows .entry))) (sizes .darts) (each (now (lambda .entry))) (each (now (delta .entry))) (asked .level .0) (asked .involution .0) (asked .dart)) ⌝ }
 {
     let n = sizes.n;
     let h = sizes.h;
@@ -119,8 +119,8 @@ pub fn read(
     involution: Dim,
     dart: u16,
 ) -> Reading
-    ensures { λ r. ⌜ valueOf r ≡ readLent (n .0) darts (h .0) (now (rows .entry)) (now (lambda .entry)) (now (delta .entry)) (level .0) (involution .0) dart ⌝ }
-    ensures { λ r. ⌜ standsSince r ≡ readSince (n .0) darts (h .0) (now (rows .entry)) (now (lambda .entry)) (now (delta .entry)) (level .0) (involution .0) dart ⌝ }
+    ensures answer { λ r. ⌜ valueOf r ≡ readLent (n .0) darts (h .0) (now (rows .entry)) (now (lambda .entry)) (now (delta .entry)) (level .0) (involution .0) dart ⌝ }
+    ensures since { λ r. ⌜ standsSince r ≡ readSince (n .0) darts (h .0) (now (rows .entry)) (now (lambda .entry)) (now (delta .entry)) (level .0) (involution .0) dart ⌝ }
 {
     let asked = Question {
         level,
@@ -145,10 +145,10 @@ pub fn unfold(
     level: Level,
     table: &mut [u16],
 ) -> Total
-    ensures { λ r. ⌜ checkOf r ≡ unfoldLent (n .0) darts (h .0) (now (rows .entry)) (now (lambda .entry)) (now (delta .entry)) (level .0) (now (table .entry)) ⌝ }
-    ensures { λ r. ⌜ totalOf r ≡ unfoldTotal (n .0) darts (h .0) (now (rows .entry)) (now (lambda .entry)) (now (delta .entry)) (level .0) (now (table .entry)) ⌝ }
-    ensures { λ r. ⌜ latestOf r ≡ unfoldSince (n .0) darts (h .0) (now (rows .entry)) (now (lambda .entry)) (now (delta .entry)) (level .0) (now (table .entry)) ⌝ }
-    ensures { λ _. ⌜ now (table .exit) ≡ unfoldLeaves (n .0) darts (h .0) (now (rows .entry)) (now (lambda .entry)) (now (delta .entry)) (level .0) (now (table .entry)) ⌝ }
+    ensures verdict { λ r. ⌜ checkOf r ≡ unfoldLent (n .0) darts (h .0) (now (rows .entry)) (now (lambda .entry)) (now (delta .entry)) (level .0) (now (table .entry)) ⌝ }
+    ensures total { λ r. ⌜ totalOf r ≡ unfoldTotal (n .0) darts (h .0) (now (rows .entry)) (now (lambda .entry)) (now (delta .entry)) (level .0) (now (table .entry)) ⌝ }
+    ensures since { λ r. ⌜ latestOf r ≡ unfoldSince (n .0) darts (h .0) (now (rows .entry)) (now (lambda .entry)) (now (delta .entry)) (level .0) (now (table .entry)) ⌝ }
+    ensures table_left { λ _. ⌜ now (table .exit) ≡ unfoldLeaves (n .0) darts (h .0) (now (rows .entry)) (now (lambda .entry)) (now (delta .entry)) (level .0) (now (table .entry)) ⌝ }
 {
     let lent = answers::pyramid_fits(n, darts, rows.len(), lambda.len(), delta.len());
     let fit = answers::both(lent, answers::rows_fit(n, darts, table.len()));

@@ -47,8 +47,8 @@ fn tested(
     level: Level,
     old: &[u16],
 ) -> Check
-    ensures { λ r. ⌜ verdictOf r ≡ rebaseLent (n .0) darts (h .0) (now (rows .entry)) (now (lambda .entry)) (now (delta .entry)) (now (table .entry)) (level .0) (now (old .entry)) ⌝ }
-    ensures { λ _. ⌜ now (table .exit) ≡ rebaseTable (n .0) darts (h .0) (now (rows .entry)) (now (lambda .entry)) (now (delta .entry)) (now (table .entry)) (level .0) (now (old .entry)) ⌝ }
+    ensures verdict { λ r. ⌜ verdictOf r ≡ rebaseLent (n .0) darts (h .0) (now (rows .entry)) (now (lambda .entry)) (now (delta .entry)) (now (table .entry)) (level .0) (now (old .entry)) ⌝ }
+    ensures table_left { λ _. ⌜ now (table .exit) ≡ rebaseTable (n .0) darts (h .0) (now (rows .entry)) (now (lambda .entry)) (now (delta .entry)) (now (table .entry)) (level .0) (now (old .entry)) ⌝ }
 {
     if let Check::Refused(r) = answers::lent(n, darts, h, answers::row_fits(darts, old.len())) {
         return Check::Refused(r);
@@ -77,12 +77,12 @@ pub fn rebase(
     level: Level,
     old: &mut [u16],
 ) -> Rebased
-    ensures { λ r. ⌜ rebasedOf darts (h .0) r ≡ rebasing (n .0) darts (h .0) (now (rows .entry)) (now (lambda .entry)) (now (delta .entry)) (now (table .entry)) (level .0) (now (old .entry)) ⌝ }
-    ensures { λ _. ⌜ now (rows .exit) ≡ rebaseRows (n .0) darts (h .0) (now (rows .entry)) (now (lambda .entry)) (now (delta .entry)) (now (table .entry)) (level .0) (now (old .entry)) ⌝ }
-    ensures { λ _. ⌜ now (lambda .exit) ≡ rebaseLambda (n .0) darts (h .0) (now (rows .entry)) (now (lambda .entry)) (now (delta .entry)) (now (table .entry)) (level .0) (now (old .entry)) ⌝ }
-    ensures { λ _. ⌜ now (delta .exit) ≡ rebaseDelta (n .0) darts (h .0) (now (rows .entry)) (now (lambda .entry)) (now (delta .entry)) (now (table .entry)) (level .0) (now (old .entry)) ⌝ }
-    ensures { λ _. ⌜ now (table .exit) ≡ rebaseTable (n .0) darts (h .0) (now (rows .entry)) (now (lambda .entry)) (now (delta .entry)) (now (table .entry)) (level .0) (now (old .entry)) ⌝ }
-    ensures { λ _. ⌜ now (old .exit) ≡ rebaseOld (n .0) darts (h .0) (now (rows .entry)) (now (lambda .entry)) (now (delta .entry)) (now (table .entry)) (level .0) (now (old .entry)) ⌝ }
+    ensures answer { λ r. ⌜ rebasedOf darts (h .0) r ≡ rebasing (n .0) darts (h .0) (now (rows .entry)) (now (lambda .entry)) (now (delta .entry)) (now (table .entry)) (level .0) (now (old .entry)) ⌝ }
+    ensures rows_left { λ _. ⌜ now (rows .exit) ≡ rebaseRows (n .0) darts (h .0) (now (rows .entry)) (now (lambda .entry)) (now (delta .entry)) (now (table .entry)) (level .0) (now (old .entry)) ⌝ }
+    ensures lambda_left { λ _. ⌜ now (lambda .exit) ≡ rebaseLambda (n .0) darts (h .0) (now (rows .entry)) (now (lambda .entry)) (now (delta .entry)) (now (table .entry)) (level .0) (now (old .entry)) ⌝ }
+    ensures delta_left { λ _. ⌜ now (delta .exit) ≡ rebaseDelta (n .0) darts (h .0) (now (rows .entry)) (now (lambda .entry)) (now (delta .entry)) (now (table .entry)) (level .0) (now (old .entry)) ⌝ }
+    ensures table_left { λ _. ⌜ now (table .exit) ≡ rebaseTable (n .0) darts (h .0) (now (rows .entry)) (now (lambda .entry)) (now (delta .entry)) (now (table .entry)) (level .0) (now (old .entry)) ⌝ }
+    ensures old_left { λ _. ⌜ now (old .exit) ≡ rebaseOld (n .0) darts (h .0) (now (rows .entry)) (now (lambda .entry)) (now (delta .entry)) (now (table .entry)) (level .0) (now (old .entry)) ⌝ }
 {
     if let Check::Refused(r) = tested(n, darts, h, rows, lambda, delta, table, level, old) {
         return Rebased::Refused(r);

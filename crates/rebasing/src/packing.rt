@@ -29,8 +29,8 @@ pub(crate) fn stands(lambda: &[u8], level: Level, d: usize) -> bool
 // The rank of each dart: how many survivors are below it. The answer is how many there are.
 pub(crate) fn rank(lambda: &[u8], level: Level, ranks: &mut [u16]) -> u16
     requires { ⌜ (length (now lambda) ≤ 4096) × (length (now ranks) ≡ length (now lambda)) ⌝ }
-    ensures { λ r. ⌜ r ≡ newDarts (length (now (lambda .entry))) (each (now (lambda .entry))) (level .0) ⌝ }
-    ensures { λ _. ⌜ now (ranks .exit) ≡ listed (rankOf (each (now (lambda .entry))) (level .0)) (length (now (lambda .entry))) ⌝ }
+    ensures answer { λ r. ⌜ r ≡ newDarts (length (now (lambda .entry))) (each (now (lambda .entry))) (level .0) ⌝ }
+    ensures ranks_left { λ _. ⌜ now (ranks .exit) ≡ listed (rankOf (each (now (lambda .entry))) (level .0)) (length (now (lambda .entry))) ⌝ }
 {
     let mut below: u16 = 0;
     for d in 0..lambda.len() {
@@ -112,9 +112,9 @@ fn reduced(lambda: u8, level: Level) -> u8
 // Λ, reduced by the level, Δ and the old numbers.
 pub(crate) fn pack_marks(level: Level, lambda: &mut [u8], delta: &mut [u8], old: &mut [u16])
     requires { ⌜ (length (now lambda) ≤ 4096) × (length (now delta) ≡ length (now lambda)) × (length (now old) ≡ length (now lambda)) ⌝ }
-    ensures { λ _. ⌜ now (lambda .exit) ≡ packed (newΛ (length (now (lambda .entry))) (each (now (lambda .entry))) (level .0)) (newDarts (length (now (lambda .entry))) (each (now (lambda .entry))) (level .0)) stay (length (now (lambda .entry))) ⌝ }
-    ensures { λ _. ⌜ now (delta .exit) ≡ packed (newΔ (length (now (lambda .entry))) (each (now (lambda .entry))) (each (now (delta .entry))) (level .0)) (newDarts (length (now (lambda .entry))) (each (now (lambda .entry))) (level .0)) stay (length (now (lambda .entry))) ⌝ }
-    ensures { λ _. ⌜ now (old .exit) ≡ packed (oldNumber (length (now (lambda .entry))) (each (now (lambda .entry))) (level .0)) (newDarts (length (now (lambda .entry))) (each (now (lambda .entry))) (level .0)) absent (length (now (lambda .entry))) ⌝ }
+    ensures lambda_left { λ _. ⌜ now (lambda .exit) ≡ packed (newΛ (length (now (lambda .entry))) (each (now (lambda .entry))) (level .0)) (newDarts (length (now (lambda .entry))) (each (now (lambda .entry))) (level .0)) stay (length (now (lambda .entry))) ⌝ }
+    ensures delta_left { λ _. ⌜ now (delta .exit) ≡ packed (newΔ (length (now (lambda .entry))) (each (now (lambda .entry))) (each (now (delta .entry))) (level .0)) (newDarts (length (now (lambda .entry))) (each (now (lambda .entry))) (level .0)) stay (length (now (lambda .entry))) ⌝ }
+    ensures old_left { λ _. ⌜ now (old .exit) ≡ packed (oldNumber (length (now (lambda .entry))) (each (now (lambda .entry))) (level .0)) (newDarts (length (now (lambda .entry))) (each (now (lambda .entry))) (level .0)) absent (length (now (lambda .entry))) ⌝ }
 {
     let mut next: usize = 0;
     for d in 0..lambda.len() {

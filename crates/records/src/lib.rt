@@ -294,9 +294,9 @@ fn copy_all(
 )
     requires { ⌜ (n .0 ≤ 4) × (1 ≤ darts) × (darts ≤ 4096) × (marksAt (n .0) darts one + (3 + darts) + (3 + darts) ≤ length (now bytes))
         × (suc (n .0) * darts ≤ length (now rows)) × (darts ≤ length (now lambda)) × (darts ≤ length (now delta)) ⌝ }
-    ensures { λ _. ⌜ Laid (tableEntry (now (bytes .entry)) darts one) 0 (suc (n .0) * darts) (now (rows .entry)) (now (rows .exit)) ⌝ }
-    ensures { λ _. ⌜ Laid (byteFrom (now (bytes .entry)) (marksAt (n .0) darts one + 3)) 0 darts (now (lambda .entry)) (now (lambda .exit)) ⌝ }
-    ensures { λ _. ⌜ Laid (byteFrom (now (bytes .entry)) (marksAt (n .0) darts one + (3 + darts) + 3)) 0 darts (now (delta .entry)) (now (delta .exit)) ⌝ }
+    ensures rows_left { λ _. ⌜ Laid (tableEntry (now (bytes .entry)) darts one) 0 (suc (n .0) * darts) (now (rows .entry)) (now (rows .exit)) ⌝ }
+    ensures lambda_left { λ _. ⌜ Laid (byteFrom (now (bytes .entry)) (marksAt (n .0) darts one + 3)) 0 darts (now (lambda .entry)) (now (lambda .exit)) ⌝ }
+    ensures delta_left { λ _. ⌜ Laid (byteFrom (now (bytes .entry)) (marksAt (n .0) darts one + (3 + darts) + 3)) 0 darts (now (delta .entry)) (now (delta .exit)) ⌝ }
 {
     let count = darts as usize;
     let at = marks_at(n, darts, one) as usize;
@@ -314,10 +314,10 @@ pub fn unpack(
     delta: &mut [u8],
     table: &[u16],
 ) -> Taken
-    ensures { λ r. ⌜ takenOf r ≡ unpacked (now (bytes .entry)) (allowedOf allowed) (now (rows .entry)) (now (lambda .entry)) (now (delta .entry)) (now (table .entry)) ⌝ }
-    ensures { λ _. ⌜ now (rows .exit) ≡ takeRows (now (bytes .entry)) (allowedOf allowed) (now (rows .entry)) (now (lambda .entry)) (now (delta .entry)) (now (table .entry)) ⌝ }
-    ensures { λ _. ⌜ now (lambda .exit) ≡ takeLambda (now (bytes .entry)) (allowedOf allowed) (now (rows .entry)) (now (lambda .entry)) (now (delta .entry)) (now (table .entry)) ⌝ }
-    ensures { λ _. ⌜ now (delta .exit) ≡ takeDelta (now (bytes .entry)) (allowedOf allowed) (now (rows .entry)) (now (lambda .entry)) (now (delta .entry)) (now (table .entry)) ⌝ }
+    ensures answer { λ r. ⌜ takenOf r ≡ unpacked (now (bytes .entry)) (allowedOf allowed) (now (rows .entry)) (now (lambda .entry)) (now (delta .entry)) (now (table .entry)) ⌝ }
+    ensures rows_left { λ _. ⌜ now (rows .exit) ≡ takeRows (now (bytes .entry)) (allowedOf allowed) (now (rows .entry)) (now (lambda .entry)) (now (delta .entry)) (now (table .entry)) ⌝ }
+    ensures lambda_left { λ _. ⌜ now (lambda .exit) ≡ takeLambda (now (bytes .entry)) (allowedOf allowed) (now (rows .entry)) (now (lambda .entry)) (now (delta .entry)) (now (table .entry)) ⌝ }
+    ensures delta_left { λ _. ⌜ now (delta .exit) ≡ takeDelta (now (bytes .entry)) (allowedOf allowed) (now (rows .entry)) (now (lambda .entry)) (now (delta .entry)) (now (table .entry)) ⌝ }
 {
     let n = Dim(byte_at(bytes, 3));
     let h = Level(byte_at(bytes, 4));

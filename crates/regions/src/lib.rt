@@ -91,9 +91,9 @@ pub fn name_regions(
     level: Level,
     names: &mut [u16],
 ) -> Check
-    ensures { λ r. ⌜ verdictOf r ≡ regionsLent (n .0) darts (h .0) (now (rows .entry)) (now (lambda .entry)) (now (delta .entry)) (now (table .entry)) (level .0) (now (names .entry)) ⌝ }
-    ensures { λ _. ⌜ now (table .exit) ≡ regionsTable (n .0) darts (h .0) (now (rows .entry)) (now (lambda .entry)) (now (delta .entry)) (now (table .entry)) (level .0) (now (names .entry)) ⌝ }
-    ensures { λ _. ⌜ RegionsLeave (n .0) darts (h .0) (now (rows .entry)) (now (lambda .entry)) (now (delta .entry)) (now (table .entry)) (level .0) (now (names .entry)) (regionsLent (n .0) darts (h .0) (now (rows .entry)) (now (lambda .entry)) (now (delta .entry)) (now (table .entry)) (level .0) (now (names .entry))) (now (names .exit)) ⌝ }
+    ensures verdict { λ r. ⌜ verdictOf r ≡ regionsLent (n .0) darts (h .0) (now (rows .entry)) (now (lambda .entry)) (now (delta .entry)) (now (table .entry)) (level .0) (now (names .entry)) ⌝ }
+    ensures table_left { λ _. ⌜ now (table .exit) ≡ regionsTable (n .0) darts (h .0) (now (rows .entry)) (now (lambda .entry)) (now (delta .entry)) (now (table .entry)) (level .0) (now (names .entry)) ⌝ }
+    ensures names_left { λ _. ⌜ RegionsLeave (n .0) darts (h .0) (now (rows .entry)) (now (lambda .entry)) (now (delta .entry)) (now (table .entry)) (level .0) (now (names .entry)) (regionsLent (n .0) darts (h .0) (now (rows .entry)) (now (lambda .entry)) (now (delta .entry)) (now (table .entry)) (level .0) (now (names .entry))) (now (names .exit)) ⌝ }
 {
     if !answers::row_fits(darts, names.len()) {
         return answers::lent(n, darts, h, false);

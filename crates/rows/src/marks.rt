@@ -48,8 +48,8 @@ pub fn marks_of(
     level: Level,
     out: &mut [u8],
 ) -> Check
-    ensures { λ r. ⌜ verdictOf r ≡ marksLent (n .0) darts (h .0) (now (lambda .entry)) (now (delta .entry)) (level .0) (now (out .entry)) ⌝ }
-    ensures { λ _. ⌜ now (out .exit) ≡ marksLeaves (n .0) darts (h .0) (now (lambda .entry)) (now (delta .entry)) (level .0) (now (out .entry)) ⌝ }
+    ensures verdict { λ r. ⌜ verdictOf r ≡ marksLent (n .0) darts (h .0) (now (lambda .entry)) (now (delta .entry)) (level .0) (now (out .entry)) ⌝ }
+    ensures out_left { λ _. ⌜ now (out .exit) ≡ marksLeaves (n .0) darts (h .0) (now (lambda .entry)) (now (delta .entry)) (level .0) (now (out .entry)) ⌝ }
 {
     let marks_fit = answers::both(
         answers::row_fits(darts, delta.len()),

@@ -90,8 +90,8 @@ fn word(lambda: &[u8], level: Level, w: usize) -> u64
 // All 64 words, and the number of ones in them.
 fn fill_words(lambda: &[u8], level: Level, words: &mut [u64]) -> u32
     requires { ⌜ (length (now lambda) ≤ 4096) × (length (now words) ≡ 64) ⌝ }
-    ensures { λ r. ⌜ r ≡ sum (λ w. ones (wordOf (length (now (lambda .entry))) 0 (now (lambda .entry)) (level .0) [] w)) 64 ⌝ }
-    ensures { λ _. ⌜ now (words .exit) ≡ listed (wordOf (length (now (lambda .entry))) 0 (now (lambda .entry)) (level .0) []) 64 ⌝ }
+    ensures answer { λ r. ⌜ r ≡ sum (λ w. ones (wordOf (length (now (lambda .entry))) 0 (now (lambda .entry)) (level .0) [] w)) 64 ⌝ }
+    ensures words_left { λ _. ⌜ now (words .exit) ≡ listed (wordOf (length (now (lambda .entry))) 0 (now (lambda .entry)) (level .0) []) 64 ⌝ }
 {
     let mut count: u32 = 0;
     for w in 0..64usize {
@@ -104,9 +104,9 @@ fn fill_words(lambda: &[u8], level: Level, words: &mut [u64]) -> u32
 
 // Survivor words of a level, with the survivor count: the number of ones in them. After a refusal nothing lent has changed.
 pub fn survivors(darts: u16, h: Level, lambda: &[u8], level: Level, words: &mut [u64]) -> Survivors
-    ensures { λ r. ⌜ verdictOfSurvivors r ≡ survivorsLent darts (h .0) (now (lambda .entry)) (level .0) (now (words .entry)) ⌝ }
-    ensures { λ r. ⌜ countOfSurvivors r ≡ survivorCount darts (h .0) (now (lambda .entry)) (level .0) (now (words .entry)) ⌝ }
-    ensures { λ _. ⌜ now (words .exit) ≡ survivorWords darts (h .0) (now (lambda .entry)) (level .0) (now (words .entry)) ⌝ }
+    ensures verdict { λ r. ⌜ verdictOfSurvivors r ≡ survivorsLent darts (h .0) (now (lambda .entry)) (level .0) (now (words .entry)) ⌝ }
+    ensures count { λ r. ⌜ countOfSurvivors r ≡ survivorCount darts (h .0) (now (lambda .entry)) (level .0) (now (words .entry)) ⌝ }
+    ensures words_left { λ _. ⌜ now (words .exit) ≡ survivorWords darts (h .0) (now (lambda .entry)) (level .0) (now (words .entry)) ⌝ }
 {
     let fit = answers::both(answers::row_fits(darts, lambda.len()), words.len() == 64);
     let question = Question {

@@ -53,8 +53,8 @@ pub fn decimation(
     table: &mut [u16],
     level: Level,
 ) -> Factor
-    ensures { λ r. ⌜ factorOf r ≡ decimating (n .0) darts (h .0) (now (rows .entry)) (now (lambda .entry)) (now (delta .entry)) (now (table .entry)) (level .0) ⌝ }
-    ensures { λ _. ⌜ now (table .exit) ≡ decimationTable (n .0) darts (h .0) (now (rows .entry)) (now (lambda .entry)) (now (delta .entry)) (now (table .entry)) (level .0) ⌝ }
+    ensures answer { λ r. ⌜ factorOf r ≡ decimating (n .0) darts (h .0) (now (rows .entry)) (now (lambda .entry)) (now (delta .entry)) (now (table .entry)) (level .0) ⌝ }
+    ensures table_left { λ _. ⌜ now (table .exit) ≡ decimationTable (n .0) darts (h .0) (now (rows .entry)) (now (lambda .entry)) (now (delta .entry)) (now (table .entry)) (level .0) ⌝ }
 {
     if let Check::Refused(r) = checking::check(n, darts, h, rows, lambda, delta, table) {
         return Factor::Refused(r);

@@ -25,8 +25,8 @@ fn check_front(
     table: &mut [u16],
 ) -> Check
     requires { ⌜ (n .0 ≤ 4) × (darts ≤ 4096) × (suc (n .0) * darts ≤ length (now rows)) × (darts ≤ length (now lambda)) × (darts ≤ length (now delta)) × (suc (n .0) * darts ≤ length (now table)) ⌝ }
-    ensures { λ r. ⌜ verdictOf r ≡ checkLent (n .0) darts (h .0) (first (suc (n .0) * darts) (now (rows .entry))) (first darts (now (lambda .entry))) (first darts (now (delta .entry))) (first (suc (n .0) * darts) (now (table .entry))) ⌝ }
-    ensures { λ _. ⌜ now (table .exit) ≡ checkLeaves (n .0) darts (h .0) (first (suc (n .0) * darts) (now (rows .entry))) (first darts (now (lambda .entry))) (first darts (now (delta .entry))) (first (suc (n .0) * darts) (now (table .entry))) ++ drop (suc (n .0) * darts) (now (table .entry)) ⌝ }
+    ensures verdict { λ r. ⌜ verdictOf r ≡ checkLent (n .0) darts (h .0) (first (suc (n .0) * darts) (now (rows .entry))) (first darts (now (lambda .entry))) (first darts (now (delta .entry))) (first (suc (n .0) * darts) (now (table .entry))) ⌝ }
+    ensures table_left { λ _. ⌜ now (table .exit) ≡ checkLeaves (n .0) darts (h .0) (first (suc (n .0) * darts) (now (rows .entry))) (first darts (now (lambda .entry))) (first darts (now (delta .entry))) (first (suc (n .0) * darts) (now (table .entry))) ++ drop (suc (n .0) * darts) (now (table .entry)) ⌝ }
 {
     let width = darts as usize;
     let size = answers::entries(n, darts);
@@ -49,11 +49,11 @@ pub fn take(
     delta: &mut [u8],
     table: &mut [u16],
 ) -> Taken
-    ensures { λ r. ⌜ takenOf r ≡ taken (now (bytes .entry)) wide (now (rows .entry)) (now (lambda .entry)) (now (delta .entry)) (now (table .entry)) ⌝ }
-    ensures { λ _. ⌜ now (rows .exit) ≡ takeRows (now (bytes .entry)) wide (now (rows .entry)) (now (lambda .entry)) (now (delta .entry)) (now (table .entry)) ⌝ }
-    ensures { λ _. ⌜ now (lambda .exit) ≡ takeLambda (now (bytes .entry)) wide (now (rows .entry)) (now (lambda .entry)) (now (delta .entry)) (now (table .entry)) ⌝ }
-    ensures { λ _. ⌜ now (delta .exit) ≡ takeDelta (now (bytes .entry)) wide (now (rows .entry)) (now (lambda .entry)) (now (delta .entry)) (now (table .entry)) ⌝ }
-    ensures { λ _. ⌜ now (table .exit) ≡ takeTable (now (bytes .entry)) wide (now (rows .entry)) (now (lambda .entry)) (now (delta .entry)) (now (table .entry)) ⌝ }
+    ensures answer { λ r. ⌜ takenOf r ≡ taken (now (bytes .entry)) wide (now (rows .entry)) (now (lambda .entry)) (now (delta .entry)) (now (table .entry)) ⌝ }
+    ensures rows_left { λ _. ⌜ now (rows .exit) ≡ takeRows (now (bytes .entry)) wide (now (rows .entry)) (now (lambda .entry)) (now (delta .entry)) (now (table .entry)) ⌝ }
+    ensures lambda_left { λ _. ⌜ now (lambda .exit) ≡ takeLambda (now (bytes .entry)) wide (now (rows .entry)) (now (lambda .entry)) (now (delta .entry)) (now (table .entry)) ⌝ }
+    ensures delta_left { λ _. ⌜ now (delta .exit) ≡ takeDelta (now (bytes .entry)) wide (now (rows .entry)) (now (lambda .entry)) (now (delta .entry)) (now (table .entry)) ⌝ }
+    ensures table_left { λ _. ⌜ now (table .exit) ≡ takeTable (now (bytes .entry)) wide (now (rows .entry)) (now (lambda .entry)) (now (delta .entry)) (now (table .entry)) ⌝ }
 {
     match records::unpack(bytes, Allowed::Wide, rows, lambda, delta, table) {
         Taken::Refused(r) => Taken::Refused(r),

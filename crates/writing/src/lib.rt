@@ -62,9 +62,9 @@ pub fn write(
     table: &mut [u16],
     bytes: &mut [u8],
 ) -> Written
-    ensures { λ r. ⌜ writtenOf r ≡ writing (n .0) darts (h .0) (now (rows .entry)) (now (lambda .entry)) (now (delta .entry)) (now (table .entry)) (now (bytes .entry)) ⌝ }
-    ensures { λ _. ⌜ now (table .exit) ≡ writeTable (n .0) darts (h .0) (now (rows .entry)) (now (lambda .entry)) (now (delta .entry)) (now (table .entry)) (now (bytes .entry)) ⌝ }
-    ensures { λ _. ⌜ now (bytes .exit) ≡ writeLeaves (n .0) darts (h .0) (now (rows .entry)) (now (lambda .entry)) (now (delta .entry)) (now (table .entry)) (now (bytes .entry)) ⌝ }
+    ensures answer { λ r. ⌜ writtenOf r ≡ writing (n .0) darts (h .0) (now (rows .entry)) (now (lambda .entry)) (now (delta .entry)) (now (table .entry)) (now (bytes .entry)) ⌝ }
+    ensures table_left { λ _. ⌜ now (table .exit) ≡ writeTable (n .0) darts (h .0) (now (rows .entry)) (now (lambda .entry)) (now (delta .entry)) (now (table .entry)) (now (bytes .entry)) ⌝ }
+    ensures bytes_left { λ _. ⌜ now (bytes .exit) ≡ writeLeaves (n .0) darts (h .0) (now (rows .entry)) (now (lambda .entry)) (now (delta .entry)) (now (table .entry)) (now (bytes .entry)) ⌝ }
 {
     if let Check::Refused(r) = checking::check(n, darts, h, rows, lambda, delta, table) {
         return Written::Refused(r);

@@ -450,8 +450,8 @@ pub extern "C" fn zg_check(
     delta: &[u8],
     table: &mut [u16],
 ) -> ZgRefusal
-    ensures { λ r. ⌜ r ≡ refusalFor (checkLent n darts h (now (rows .entry)) (now (lambda .entry)) (now (delta .entry)) (now (table .entry))) ⌝ }
-    ensures { λ _. ⌜ now (table .exit) ≡ checkLeaves n darts h (now (rows .entry)) (now (lambda .entry)) (now (delta .entry)) (now (table .entry)) ⌝ }
+    ensures answer { λ r. ⌜ r ≡ refusalFor (checkLent n darts h (now (rows .entry)) (now (lambda .entry)) (now (delta .entry)) (now (table .entry))) ⌝ }
+    ensures table_left { λ _. ⌜ now (table .exit) ≡ checkLeaves n darts h (now (rows .entry)) (now (lambda .entry)) (now (delta .entry)) (now (table .entry)) ⌝ }
 {
     checked(checking::check(Dim(n), darts, Level(h), rows, lambda, delta, table))
 }
@@ -468,10 +468,10 @@ pub extern "C" fn zg_add(
     marks: &[u8],
     table: &mut [u16],
 ) -> ZgHeight
-    ensures { λ r. ⌜ r ≡ heightFor (addLent n darts h (now (rows .entry)) (now (lambda .entry)) (now (delta .entry)) (now (marks .entry)) (now (table .entry))) (addHeight n darts h (now (rows .entry)) (now (lambda .entry)) (now (delta .entry)) (now (marks .entry)) (now (table .entry))) ⌝ }
-    ensures { λ _. ⌜ now (lambda .exit) ≡ addLambda n darts h (now (rows .entry)) (now (lambda .entry)) (now (delta .entry)) (now (marks .entry)) (now (table .entry)) ⌝ }
-    ensures { λ _. ⌜ now (delta .exit) ≡ addDelta n darts h (now (rows .entry)) (now (lambda .entry)) (now (delta .entry)) (now (marks .entry)) (now (table .entry)) ⌝ }
-    ensures { λ _. ⌜ now (table .exit) ≡ addLeaves n darts h (now (rows .entry)) (now (lambda .entry)) (now (delta .entry)) (now (marks .entry)) (now (table .entry)) ⌝ }
+    ensures answer { λ r. ⌜ r ≡ heightFor (addLent n darts h (now (rows .entry)) (now (lambda .entry)) (now (delta .entry)) (now (marks .entry)) (now (table .entry))) (addHeight n darts h (now (rows .entry)) (now (lambda .entry)) (now (delta .entry)) (now (marks .entry)) (now (table .entry))) ⌝ }
+    ensures lambda_left { λ _. ⌜ now (lambda .exit) ≡ addLambda n darts h (now (rows .entry)) (now (lambda .entry)) (now (delta .entry)) (now (marks .entry)) (now (table .entry)) ⌝ }
+    ensures delta_left { λ _. ⌜ now (delta .exit) ≡ addDelta n darts h (now (rows .entry)) (now (lambda .entry)) (now (delta .entry)) (now (marks .entry)) (now (table .entry)) ⌝ }
+    ensures table_left { λ _. ⌜ now (table .exit) ≡ addLeaves n darts h (now (rows .entry)) (now (lambda .entry)) (now (delta .entry)) (now (marks .entry)) (now (table .entry)) ⌝ }
 {
     grown(
         h,
@@ -490,8 +490,8 @@ pub extern "C" fn zg_marks_of(
     level: u8,
     marks: &mut [u8],
 ) -> ZgRefusal
-    ensures { λ r. ⌜ r ≡ refusalFor (marksLent n darts h (now (lambda .entry)) (now (delta .entry)) level (now (marks .entry))) ⌝ }
-    ensures { λ _. ⌜ now (marks .exit) ≡ marksLeaves n darts h (now (lambda .entry)) (now (delta .entry)) level (now (marks .entry)) ⌝ }
+    ensures answer { λ r. ⌜ r ≡ refusalFor (marksLent n darts h (now (lambda .entry)) (now (delta .entry)) level (now (marks .entry))) ⌝ }
+    ensures marks_left { λ _. ⌜ now (marks .exit) ≡ marksLeaves n darts h (now (lambda .entry)) (now (delta .entry)) level (now (marks .entry)) ⌝ }
 {
     checked(rows::marks_of(Dim(n), darts, Level(h), lambda, delta, Level(level), marks))
 }
@@ -564,8 +564,8 @@ pub extern "C" fn zg_unfold(
     level: u8,
     table: &mut [u16],
 ) -> ZgUnfolding
-    ensures { λ r. ⌜ r ≡ unfoldingFor (unfoldLent n darts h (now (rows .entry)) (now (lambda .entry)) (now (delta .entry)) level (now (table .entry))) (unfoldTotal n darts h (now (rows .entry)) (now (lambda .entry)) (now (delta .entry)) level (now (table .entry))) (unfoldSince n darts h (now (rows .entry)) (now (lambda .entry)) (now (delta .entry)) level (now (table .entry))) ⌝ }
-    ensures { λ _. ⌜ now (table .exit) ≡ unfoldLeaves n darts h (now (rows .entry)) (now (lambda .entry)) (now (delta .entry)) level (now (table .entry)) ⌝ }
+    ensures answer { λ r. ⌜ r ≡ unfoldingFor (unfoldLent n darts h (now (rows .entry)) (now (lambda .entry)) (now (delta .entry)) level (now (table .entry))) (unfoldTotal n darts h (now (rows .entry)) (now (lambda .entry)) (now (delta .entry)) level (now (table .entry))) (unfoldSince n darts h (now (rows .entry)) (now (lambda .entry)) (now (delta .entry)) level (now (table .entry))) ⌝ }
+    ensures table_left { λ _. ⌜ now (table .exit) ≡ unfoldLeaves n darts h (now (rows .entry)) (now (lambda .entry)) (now (delta .entry)) level (now (table .entry)) ⌝ }
 {
     totalled(reading::unfold(
         Dim(n),
@@ -617,8 +617,8 @@ pub extern "C" fn zg_survivors(
     level: u8,
     words: &mut [u64],
 ) -> ZgCount
-    ensures { λ r. ⌜ r ≡ countFor (survivorsLent darts h (now (lambda .entry)) level (now (words .entry))) (survivorCount darts h (now (lambda .entry)) level (now (words .entry))) ⌝ }
-    ensures { λ _. ⌜ now (words .exit) ≡ survivorWords darts h (now (lambda .entry)) level (now (words .entry)) ⌝ }
+    ensures answer { λ r. ⌜ r ≡ countFor (survivorsLent darts h (now (lambda .entry)) level (now (words .entry))) (survivorCount darts h (now (lambda .entry)) level (now (words .entry))) ⌝ }
+    ensures words_left { λ _. ⌜ now (words .exit) ≡ survivorWords darts h (now (lambda .entry)) level (now (words .entry)) ⌝ }
 {
     counted(rows::survivors(darts, Level(h), lambda, Level(level), words))
 }
@@ -632,8 +632,8 @@ pub extern "C" fn zg_mark_cells(
     dimension: u8,
     marks: &mut [u8],
 ) -> ZgRefusal
-    ensures { λ r. ⌜ r ≡ refusalFor (markLent n darts (now (table .entry)) dimension (now (marks .entry))) ⌝ }
-    ensures { λ _. ⌜ MarkLeaves n darts (now (table .entry)) dimension (now (marks .entry)) (markLent n darts (now (table .entry)) dimension (now (marks .entry))) (now (marks .exit)) ⌝ }
+    ensures answer { λ r. ⌜ r ≡ refusalFor (markLent n darts (now (table .entry)) dimension (now (marks .entry))) ⌝ }
+    ensures marks_left { λ _. ⌜ MarkLeaves n darts (now (table .entry)) dimension (now (marks .entry)) (markLent n darts (now (table .entry)) dimension (now (marks .entry))) (now (marks .exit)) ⌝ }
 {
     checked(cells::mark_cells(Dim(n), darts, table, Dim(dimension), marks))
 }
@@ -647,11 +647,11 @@ pub extern "C" fn zg_take(
     delta: &mut [u8],
     table: &mut [u16],
 ) -> ZgRecord
-    ensures { λ r. ⌜ r ≡ recordFor (taken (now (bytes .entry)) wide (now (rows .entry)) (now (lambda .entry)) (now (delta .entry)) (now (table .entry))) ⌝ }
-    ensures { λ _. ⌜ now (rows .exit) ≡ takeRows (now (bytes .entry)) wide (now (rows .entry)) (now (lambda .entry)) (now (delta .entry)) (now (table .entry)) ⌝ }
-    ensures { λ _. ⌜ now (lambda .exit) ≡ takeLambda (now (bytes .entry)) wide (now (rows .entry)) (now (lambda .entry)) (now (delta .entry)) (now (table .entry)) ⌝ }
-    ensures { λ _. ⌜ now (delta .exit) ≡ takeDelta (now (bytes .entry)) wide (now (rows .entry)) (now (lambda .entry)) (now (delta .entry)) (now (table .entry)) ⌝ }
-    ensures { λ _. ⌜ now (table .exit) ≡ takeTable (now (bytes .entry)) wide (now (rows .entry)) (now (lambda .entry)) (now (delta .entry)) (now (table .entry)) ⌝ }
+    ensures answer { λ r. ⌜ r ≡ recordFor (taken (now (bytes .entry)) wide (now (rows .entry)) (now (lambda .entry)) (now (delta .entry)) (now (table .entry))) ⌝ }
+    ensures rows_left { λ _. ⌜ now (rows .exit) ≡ takeRows (now (bytes .entry)) wide (now (rows .entry)) (now (lambda .entry)) (now (delta .entry)) (now (table .entry)) ⌝ }
+    ensures lambda_left { λ _. ⌜ now (lambda .exit) ≡ takeLambda (now (bytes .entry)) wide (now (rows .entry)) (now (lambda .entry)) (now (delta .entry)) (now (table .entry)) ⌝ }
+    ensures delta_left { λ _. ⌜ now (delta .exit) ≡ takeDelta (now (bytes .entry)) wide (now (rows .entry)) (now (lambda .entry)) (now (delta .entry)) (now (table .entry)) ⌝ }
+    ensures table_left { λ _. ⌜ now (table .exit) ≡ takeTable (now (bytes .entry)) wide (now (rows .entry)) (now (lambda .entry)) (now (delta .entry)) (now (table .entry)) ⌝ }
 {
     taken_as(taking::take(bytes, rows, lambda, delta, table))
 }
@@ -668,9 +668,9 @@ pub extern "C" fn zg_write(
     table: &mut [u16],
     bytes: &mut [u8],
 ) -> ZgWritten
-    ensures { λ r. ⌜ r ≡ writtenFor (writing n darts h (now (rows .entry)) (now (lambda .entry)) (now (delta .entry)) (now (table .entry)) (now (bytes .entry))) ⌝ }
-    ensures { λ _. ⌜ now (table .exit) ≡ writeTable n darts h (now (rows .entry)) (now (lambda .entry)) (now (delta .entry)) (now (table .entry)) (now (bytes .entry)) ⌝ }
-    ensures { λ _. ⌜ now (bytes .exit) ≡ writeLeaves n darts h (now (rows .entry)) (now (lambda .entry)) (now (delta .entry)) (now (table .entry)) (now (bytes .entry)) ⌝ }
+    ensures answer { λ r. ⌜ r ≡ writtenFor (writing n darts h (now (rows .entry)) (now (lambda .entry)) (now (delta .entry)) (now (table .entry)) (now (bytes .entry))) ⌝ }
+    ensures table_left { λ _. ⌜ now (table .exit) ≡ writeTable n darts h (now (rows .entry)) (now (lambda .entry)) (now (delta .entry)) (now (table .entry)) (now (bytes .entry)) ⌝ }
+    ensures bytes_left { λ _. ⌜ now (bytes .exit) ≡ writeLeaves n darts h (now (rows .entry)) (now (lambda .entry)) (now (delta .entry)) (now (table .entry)) (now (bytes .entry)) ⌝ }
 {
     written_as(writing::write(Dim(n), darts, Level(h), rows, lambda, delta, table, bytes))
 }
@@ -687,8 +687,8 @@ pub extern "C" fn zg_decimation(
     table: &mut [u16],
     level: u8,
 ) -> ZgFactor
-    ensures { λ r. ⌜ r ≡ factorFor (decimating n darts h (now (rows .entry)) (now (lambda .entry)) (now (delta .entry)) (now (table .entry)) level) ⌝ }
-    ensures { λ _. ⌜ now (table .exit) ≡ decimationTable n darts h (now (rows .entry)) (now (lambda .entry)) (now (delta .entry)) (now (table .entry)) level ⌝ }
+    ensures answer { λ r. ⌜ r ≡ factorFor (decimating n darts h (now (rows .entry)) (now (lambda .entry)) (now (delta .entry)) (now (table .entry)) level) ⌝ }
+    ensures table_left { λ _. ⌜ now (table .exit) ≡ decimationTable n darts h (now (rows .entry)) (now (lambda .entry)) (now (delta .entry)) (now (table .entry)) level ⌝ }
 {
     factor_as(shrinking::decimation(
         Dim(n),
@@ -715,9 +715,9 @@ pub extern "C" fn zg_census(
     cells: &mut [u16],
     sums: &mut [i32],
 ) -> ZgRefusal
-    ensures { λ r. ⌜ r ≡ refusalFor (censusLent n darts h (now (rows .entry)) (now (lambda .entry)) (now (delta .entry)) (now (table .entry)) (now (cells .entry)) (now (sums .entry))) ⌝ }
-    ensures { λ _. ⌜ now (table .exit) ≡ censusTable n darts h (now (rows .entry)) (now (lambda .entry)) (now (delta .entry)) (now (table .entry)) (now (cells .entry)) (now (sums .entry)) ⌝ }
-    ensures { λ _. ⌜ CensusPutLeaves n darts h (now (rows .entry)) (now (lambda .entry)) (now (delta .entry)) (censusLent n darts h (now (rows .entry)) (now (lambda .entry)) (now (delta .entry)) (now (table .entry)) (now (cells .entry)) (now (sums .entry))) (now (cells .entry)) (now (sums .entry)) (now (cells .exit)) (now (sums .exit)) ⌝ }
+    ensures answer { λ r. ⌜ r ≡ refusalFor (censusLent n darts h (now (rows .entry)) (now (lambda .entry)) (now (delta .entry)) (now (table .entry)) (now (cells .entry)) (now (sums .entry))) ⌝ }
+    ensures table_left { λ _. ⌜ now (table .exit) ≡ censusTable n darts h (now (rows .entry)) (now (lambda .entry)) (now (delta .entry)) (now (table .entry)) (now (cells .entry)) (now (sums .entry)) ⌝ }
+    ensures counts_left { λ _. ⌜ CensusPutLeaves n darts h (now (rows .entry)) (now (lambda .entry)) (now (delta .entry)) (censusLent n darts h (now (rows .entry)) (now (lambda .entry)) (now (delta .entry)) (now (table .entry)) (now (cells .entry)) (now (sums .entry))) (now (cells .entry)) (now (sums .entry)) (now (cells .exit)) (now (sums .exit)) ⌝ }
 {
     checked(census_into(
         Dim(n),
@@ -735,8 +735,8 @@ pub extern "C" fn zg_census(
 // Brings in a 2D combinatorial map of m darts as the rows of a base of 2m darts.
 #[no_mangle]
 pub extern "C" fn zg_import(m: u16, edges: &[u16], vertices: &[u16], rows: &mut [u16]) -> ZgRefusal
-    ensures { λ r. ⌜ r ≡ refusalFor (importLent m (now (edges .entry)) (now (vertices .entry)) (now (rows .entry))) ⌝ }
-    ensures { λ _. ⌜ ImportLeaves m (now (edges .entry)) (now (vertices .entry)) (now (rows .entry)) (importLent m (now (edges .entry)) (now (vertices .entry)) (now (rows .entry))) (now (rows .exit)) ⌝ }
+    ensures answer { λ r. ⌜ r ≡ refusalFor (importLent m (now (edges .entry)) (now (vertices .entry)) (now (rows .entry))) ⌝ }
+    ensures rows_left { λ _. ⌜ ImportLeaves m (now (edges .entry)) (now (vertices .entry)) (now (rows .entry)) (importLent m (now (edges .entry)) (now (vertices .entry)) (now (rows .entry))) (now (rows .exit)) ⌝ }
 {
     checked(partner::import(m, edges, vertices, rows))
 }
@@ -767,9 +767,9 @@ pub extern "C" fn zg_join(
     table: &mut [u16],
     level: u8,
 ) -> ZgHeight
-    ensures { λ r. ⌜ r ≡ heightFor (joinLent n darts h (now (rows .entry)) (now (lambda .entry)) (now (delta .entry)) (now (table .entry)) level) (joinHeight n darts h (now (rows .entry)) (now (lambda .entry)) (now (delta .entry)) (now (table .entry)) level) ⌝ }
-    ensures { λ _. ⌜ now (lambda .exit) ≡ joinLambda n darts h (now (rows .entry)) (now (lambda .entry)) (now (delta .entry)) (now (table .entry)) level ⌝ }
-    ensures { λ _. ⌜ now (table .exit) ≡ joinLeaves n darts h (now (rows .entry)) (now (lambda .entry)) (now (delta .entry)) (now (table .entry)) level ⌝ }
+    ensures answer { λ r. ⌜ r ≡ heightFor (joinLent n darts h (now (rows .entry)) (now (lambda .entry)) (now (delta .entry)) (now (table .entry)) level) (joinHeight n darts h (now (rows .entry)) (now (lambda .entry)) (now (delta .entry)) (now (table .entry)) level) ⌝ }
+    ensures lambda_left { λ _. ⌜ now (lambda .exit) ≡ joinLambda n darts h (now (rows .entry)) (now (lambda .entry)) (now (delta .entry)) (now (table .entry)) level ⌝ }
+    ensures table_left { λ _. ⌜ now (table .exit) ≡ joinLeaves n darts h (now (rows .entry)) (now (lambda .entry)) (now (delta .entry)) (now (table .entry)) level ⌝ }
 {
     let answer = joining::join(
         Dim(n),
@@ -797,12 +797,12 @@ pub extern "C" fn zg_rebase(
     level: u8,
     old: &mut [u16],
 ) -> ZgBase
-    ensures { λ r. ⌜ r ≡ baseFor (rebasing n darts h (now (rows .entry)) (now (lambda .entry)) (now (delta .entry)) (now (table .entry)) level (now (old .entry))) ⌝ }
-    ensures { λ _. ⌜ now (rows .exit) ≡ rebaseRows n darts h (now (rows .entry)) (now (lambda .entry)) (now (delta .entry)) (now (table .entry)) level (now (old .entry)) ⌝ }
-    ensures { λ _. ⌜ now (lambda .exit) ≡ rebaseLambda n darts h (now (rows .entry)) (now (lambda .entry)) (now (delta .entry)) (now (table .entry)) level (now (old .entry)) ⌝ }
-    ensures { λ _. ⌜ now (delta .exit) ≡ rebaseDelta n darts h (now (rows .entry)) (now (lambda .entry)) (now (delta .entry)) (now (table .entry)) level (now (old .entry)) ⌝ }
-    ensures { λ _. ⌜ now (table .exit) ≡ rebaseTable n darts h (now (rows .entry)) (now (lambda .entry)) (now (delta .entry)) (now (table .entry)) level (now (old .entry)) ⌝ }
-    ensures { λ _. ⌜ now (old .exit) ≡ rebaseOld n darts h (now (rows .entry)) (now (lambda .entry)) (now (delta .entry)) (now (table .entry)) level (now (old .entry)) ⌝ }
+    ensures answer { λ r. ⌜ r ≡ baseFor (rebasing n darts h (now (rows .entry)) (now (lambda .entry)) (now (delta .entry)) (now (table .entry)) level (now (old .entry))) ⌝ }
+    ensures rows_left { λ _. ⌜ now (rows .exit) ≡ rebaseRows n darts h (now (rows .entry)) (now (lambda .entry)) (now (delta .entry)) (now (table .entry)) level (now (old .entry)) ⌝ }
+    ensures lambda_left { λ _. ⌜ now (lambda .exit) ≡ rebaseLambda n darts h (now (rows .entry)) (now (lambda .entry)) (now (delta .entry)) (now (table .entry)) level (now (old .entry)) ⌝ }
+    ensures delta_left { λ _. ⌜ now (delta .exit) ≡ rebaseDelta n darts h (now (rows .entry)) (now (lambda .entry)) (now (delta .entry)) (now (table .entry)) level (now (old .entry)) ⌝ }
+    ensures table_left { λ _. ⌜ now (table .exit) ≡ rebaseTable n darts h (now (rows .entry)) (now (lambda .entry)) (now (delta .entry)) (now (table .entry)) level (now (old .entry)) ⌝ }
+    ensures old_left { λ _. ⌜ now (old .exit) ≡ rebaseOld n darts h (now (rows .entry)) (now (lambda .entry)) (now (delta .entry)) (now (table .entry)) level (now (old .entry)) ⌝ }
 {
     based_as(
         darts,

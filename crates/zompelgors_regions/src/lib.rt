@@ -52,9 +52,9 @@ pub extern "C" fn zg_regions(
     level: u8,
     names: &mut [u16],
 ) -> ZgRefusal
-    ensures { λ r. ⌜ r ≡ refusalFor (regionsLent n darts h (now (rows .entry)) (now (lambda .entry)) (now (delta .entry)) (now (table .entry)) level (now (names .entry))) ⌝ }
-    ensures { λ _. ⌜ now (table .exit) ≡ regionsTable n darts h (now (rows .entry)) (now (lambda .entry)) (now (delta .entry)) (now (table .entry)) level (now (names .entry)) ⌝ }
-    ensures { λ _. ⌜ RegionsLeave n darts h (now (rows .entry)) (now (lambda .entry)) (now (delta .entry)) (now (table .entry)) level (now (names .entry)) (regionsLent n darts h (now (rows .entry)) (now (lambda .entry)) (now (delta .entry)) (now (table .entry)) level (now (names .entry))) (now (names .exit)) ⌝ }
+    ensures answer { λ r. ⌜ r ≡ refusalFor (regionsLent n darts h (now (rows .entry)) (now (lambda .entry)) (now (delta .entry)) (now (table .entry)) level (now (names .entry))) ⌝ }
+    ensures table_left { λ _. ⌜ now (table .exit) ≡ regionsTable n darts h (now (rows .entry)) (now (lambda .entry)) (now (delta .entry)) (now (table .entry)) level (now (names .entry)) ⌝ }
+    ensures names_left { λ _. ⌜ RegionsLeave n darts h (now (rows .entry)) (now (lambda .entry)) (now (delta .entry)) (now (table .entry)) level (now (names .entry)) (regionsLent n darts h (now (rows .entry)) (now (lambda .entry)) (now (delta .entry)) (now (table .entry)) level (now (names .entry))) (now (names .exit)) ⌝ }
 {
     flat(regions::name_regions(
         Dim(n),
