@@ -26,13 +26,15 @@ struct implementation {
     __typeof__(&plain_census) census;
 };
 
+/* The jobs in the order of the struct, by the beginning of their names; the C has two ways to read by levels. */
+#define JOBS(p, by_levels)                                                                                             \
+    p##check, p##add, p##unfold, p##read, by_levels, p##mark_cells, p##take, p##write, p##decimation, p##import,       \
+        p##export, p##regions, p##join, p##rebase, p##survivors, p##census
+
 static const struct implementation implementations[] = {
-    {"library", zg_check, zg_add, zg_unfold, zg_read, zg_read_by_levels, zg_mark_cells, zg_take, zg_write,
-     zg_decimation, zg_import, zg_export, zg_regions, zg_join, zg_rebase, zg_survivors, zg_census},
-    {"c", plain_check, plain_add, plain_unfold, plain_read, plain_read_by_levels, plain_mark_cells, plain_take,
-     plain_write, plain_decimation, plain_import, plain_export, plain_regions, plain_join, plain_rebase, plain_survivors, plain_census},
-    {"skipping", plain_check, plain_add, plain_unfold, plain_read, plain_read_by_levels_skipping, plain_mark_cells,
-     plain_take, plain_write, plain_decimation, plain_import, plain_export, plain_regions, plain_join, plain_rebase, plain_survivors, plain_census},
+    {"library", JOBS(zg_, zg_read_by_levels)},
+    {"c", JOBS(plain_, plain_read_by_levels)},
+    {"skipping", JOBS(plain_, plain_read_by_levels_skipping)},
 };
 
 /* All that is lent. It is written once before anything is counted, so no page is touched for the first time then. */
@@ -179,18 +181,18 @@ struct job {
 };
 
 static const struct job jobs[] = {
-    {"check", run_check}, {"add", run_add},   {"unfold", run_unfold}, {"read", run_read}, {"bylevels", run_by_levels},
-    {"mark", run_mark},   {"take", run_take}, {"write", run_write},   {"regions", run_regions},
-    {"rebase", run_rebase},
-    {"survivors", run_survivors},
-    {"decimation", run_decimation}, {"join", run_join},
-    {"census", run_census},
-    {"import", run_import}, {"export", run_export},
+    {"check", run_check},       {"add", run_add},             {"unfold", run_unfold},
+    {"read", run_read},         {"bylevels", run_by_levels},  {"mark", run_mark},
+    {"take", run_take},         {"write", run_write},         {"regions", run_regions},
+    {"rebase", run_rebase},     {"survivors", run_survivors}, {"decimation", run_decimation},
+    {"join", run_join},         {"census", run_census},       {"import", run_import},
+    {"export", run_export},
 };
 
-/* ---------------------------------------------------------------- */
+/* ---------------------------------------------------------------- what is lent */
 
-/* The pyramid with an empty kernel below the others, so that kernels 0 and 1 can be joined; at height 32 without its top. */
+/* The pyramid with an empty kernel below the others, so that kernels 0 and 1 can be joined; at height 32 without its
+ * top. */
 static void raise_kernels(void)
 {
     raised = map.h < ZG_MOST_LEVELS ? map : lower;

@@ -55,12 +55,12 @@ count() {
     with=$(instructions "$@" 1) && without=$(instructions "$@" 0) && echo $((with - without))
 }
 
-# own IMPLEMENTATION JOB MAP: what a job takes itself; a taking ends with a check, a writing, a decimation, a census and
-# starting again begin with one, which is counted by itself.
+# own IMPLEMENTATION JOB MAP: what a job takes itself; a taking ends with a check, a writing, a decimation, a census,
+# naming regions and starting again begin with one, which is counted by itself.
 own() {
     local all check=0
     all=$(count "$@") || return 1
-    case $2 in take | write | decimation | census | rebase) check=$(count "$1" check "$3") || return 1 ;; esac
+    case $2 in take | write | decimation | census | regions | rebase) check=$(count "$1" check "$3") || return 1 ;; esac
     echo $((all - check))
 }
 

@@ -30,7 +30,8 @@ const char *const case_forms[JOBS] = {
 const char *const answer_forms[JOBS] = {
     [CHECK_BASE] = "", [CHECK] = "T", [ADD] = "LET", [MARKS] = "M", [READ] = "", [BY_LEVELS] = "", [UNFOLD] = "T",
     [ROW] = "", [SURVIVORS] = "W", [MARK] = "M", [TAKE] = "RLET", [WRITE] = "TB", [DECIMATION] = "FT", [IMPORT] = "R",
-    [EXPORT] = "PV", [CENSUS] = "TCS", [REGIONS] = "TN", [JOIN] = "LT", [REBASE] = "RLETO", [LEVELS] = "", [CENSUS_PROGRAM] = ""
+    [EXPORT] = "PV", [CENSUS] = "TCS", [REGIONS] = "TN", [JOIN] = "LT", [REBASE] = "RLETO", [LEVELS] = "",
+    [CENSUS_PROGRAM] = ""
 };
 
 enum place call_place = BETWEEN_CANARIES;

@@ -17,7 +17,8 @@ enum job {
 /*
  * How the vectors write the jobs, in the order of enum job: their names, what a case's line holds, and what stands in
  * the answer behind the refusal and the numbers found. n, N (D), h; rows (R), table (T), lambda (L), delta (E),
- * marks (M), words (W), bytes (B), cells (C), sums (S), edge row (P), vertex row (V), names (N), old numbers (O); level (l), involution or dimension (i), dart (d); the bits of a factor (F).
+ * marks (M), words (W), bytes (B), cells (C), sums (S), edge row (P), vertex row (V), names (N), old numbers (O);
+ * level (l), involution or dimension (i), dart (d); the bits of a factor (F).
  */
 extern const char *const job_names[JOBS], *const case_forms[JOBS], *const answer_forms[JOBS];
 
@@ -33,7 +34,8 @@ struct call {
     uint8_t *lambda, *delta, *marks, *bytes;
     uint64_t *words;
     int32_t *sums;
-    size_t rows_len, table_len, lambda_len, delta_len, marks_len, bytes_len, words_len, cells_len, sums_len, edges_len, vertices_len, names_len, old_len;
+    size_t rows_len, table_len, cells_len, edges_len, vertices_len, names_len, old_len;
+    size_t lambda_len, delta_len, marks_len, bytes_len, words_len, sums_len;
 
     unsigned refusal[4]; /* number, level, involution, dart */
     unsigned found[3];   /* in the order of the vectors' answers */

@@ -32,8 +32,8 @@ struct Case {
 inline bool same_lent(const Case& x, const Case& y)
 {
     return x.rows == y.rows && x.table == y.table && x.lambda == y.lambda && x.delta == y.delta &&
-           x.marks == y.marks && x.bytes == y.bytes && x.words == y.words && x.cells == y.cells && x.sums == y.sums && x.edges == y.edges &&
-           x.vertices == y.vertices && x.names == y.names && x.old == y.old;
+           x.marks == y.marks && x.bytes == y.bytes && x.words == y.words && x.cells == y.cells && x.sums == y.sums &&
+           x.edges == y.edges && x.vertices == y.vertices && x.names == y.names && x.old == y.old;
 }
 
 struct Answer {

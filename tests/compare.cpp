@@ -1,40 +1,13 @@
 // Compares the library with the independent implementation on random, large and damaged inputs.
+#include "comparison.hpp"
 #include "random_cases.hpp"
 
-#include <csignal>
 #include <fstream>
 #include <iostream>
 
 namespace {
 
 // ---------------------------------------------------------------- what occurred
-
-constexpr unsigned numbers = 24;
-
-// The numbers that each job can give, 0 for accepted.
-const std::vector<unsigned> possible[JOBS] = {
-    {0, 1, 2, 4, 5, 6, 7},
-    {0, 1, 2, 3, 4, 5, 6, 7, 8, 9, 10},
-    {0, 1, 2, 3, 4, 5, 6, 7, 8, 9, 10, 20},
-    {0, 1, 2, 3, 4, 8, 11},
-    {0, 1, 2, 3, 4, 5, 8, 11, 12, 13, 14, 15},
-    {0, 1, 2, 3, 4, 5, 8, 11, 12, 13, 14, 15},
-    {0, 1, 2, 3, 4, 5, 8, 11, 14, 15},
-    {0, 1, 2, 3, 4, 11, 13},
-    {0, 2, 3, 4, 8, 11},
-    {0, 1, 2, 4, 5, 6, 7, 13},
-    {0, 1, 2, 3, 4, 5, 6, 7, 8, 9, 10, 16, 17, 18, 19},
-    {0, 1, 2, 3, 4, 5, 6, 7, 8, 9, 10},
-    {0, 1, 2, 3, 4, 5, 6, 7, 8, 9, 10, 11},
-    {0, 2, 4, 5, 6, 21},
-    {0, 1, 2, 4, 5, 6, 7, 22},
-    {0, 1, 2, 3, 4, 5, 6, 7, 8, 9, 10},
-    {0, 1, 2, 3, 4, 5, 6, 7, 8, 9, 10, 11, 23},
-    {0, 1, 2, 3, 4, 5, 6, 7, 8, 9, 10, 11},
-    {0, 1, 2, 3, 4, 5, 6, 7, 8, 9, 10, 11},
-    {0, 1, 2, 3, 5, 6, 7, 8, 9, 10, 16, 17, 18, 19},
-    {0, 1, 2, 3, 5, 6, 7, 8, 9, 10, 16, 17, 18, 19},
-};
 
 struct Tally {
     unsigned long seen[JOBS][numbers] = {};
@@ -43,11 +16,7 @@ struct Tally {
 
     void count(const Case& c, const Answer& a, const Pyramid& source)
     {
-        unsigned number = a.refusal.number;
-        if (c.what == LEVELS || c.what == CENSUS_PROGRAM)
-            std::sscanf(a.text.c_str(), "refused %u", &number);
-        assert(number < numbers);
-        seen[c.what][number]++;
+        seen[c.what][number_of(c, a)]++;
         large += source.darts >= 1000;
         high += source.h > 8;
         const bool contracts = has(source, independent::Kind::contraction);
@@ -94,38 +63,10 @@ struct Tally {
 
 // ---------------------------------------------------------------- the comparison
 
-const Case* current = nullptr;
-
-void print_current()
-{
-    if (current)
-        std::fprintf(stderr, "case: %s\n", case_line(*current).c_str());
-}
-
-void on_fault(int)
-{
-    std::fprintf(stderr, "memory outside the lent memory was touched\n");
-    print_current();
-    std::_Exit(2);
-}
-
-bool agree(const Case& c, Answer& a)
-{
-    Case by_us = c, by_them = c;
-    a = answer_independently(by_us);
-    const Answer theirs = answer_by_library(by_them);
-    if (same_answer(a, theirs) && same_lent(by_us, by_them))
-        return true;
-    std::printf("case:        %s\nindependent: %s\nlibrary:     %s\n", case_line(c).c_str(),
-                answer_line(by_us, a).c_str(), answer_line(by_them, theirs).c_str());
-    return false;
-}
-
 int compare_random(std::uint64_t seed, unsigned long count)
 {
     constexpr unsigned cases_a_source = 24;
-    call_failed = print_current;
-    std::signal(SIGSEGV, on_fault);
+    say_case_of_faults();
     Random r(seed);
     Tally tally;
     Pyramid source;
@@ -163,14 +104,58 @@ int answer_vectors(const char* name)
     return 0;
 }
 
+// ---------------------------------------------------------------- old records, for the program convert
+
+// Records of random pyramids, most of them with one byte an entry and some damaged, as lines of vectors.
+int print_old_records(std::uint64_t seed, unsigned long count)
+{
+    Random r(seed);
+    for (; count; count--) {
+        Pyramid source = random_source(r);
+        Case c;
+        std::vector<std::size_t> starts;
+        lend_pyramid(r, c, source);
+        if (r.chance(25))
+            r.chance(50) ? damage_rows(r, c.rows, c.darts) : damage_marks(r, c, r.chance(50) ? c.lambda : c.delta);
+        c.bytes = record_of(c, r.chance(c.darts <= 256 ? 75 : 5), starts);
+        if (r.chance(50))
+            damage_record(r, c.bytes, starts);
+        std::cout << "convert";
+        write_list(std::cout, c.bytes);
+        std::cout << '\n';
+    }
+    return 0;
+}
+
+int answer_converting(const char* name)
+{
+    std::ifstream in(name);
+    std::string word;
+    if (!in) {
+        std::perror(name);
+        return 2;
+    }
+    while (in >> word) {
+        Bytes record;
+        read_list(in, record);
+        std::cout << independent::convert(record) << '\n';
+    }
+    return 0;
+}
+
 } // namespace
 
 int main(int argc, char** argv)
 {
     if (argc == 3 && !std::strcmp(argv[1], "--vectors"))
         return answer_vectors(argv[2]);
+    if (argc == 3 && !std::strcmp(argv[1], "--convert"))
+        return answer_converting(argv[2]);
+    if (argc == 4 && !std::strcmp(argv[1], "--old-records"))
+        return print_old_records(std::strtoull(argv[2], nullptr, 10), std::strtoul(argv[3], nullptr, 10));
     if (argc == 4 && !std::strcmp(argv[1], "--random"))
         return compare_random(std::strtoull(argv[2], nullptr, 10), std::strtoul(argv[3], nullptr, 10));
-    std::fprintf(stderr, "compare --vectors FILE.cases | compare --random SEED COUNT\n");
+    std::fprintf(stderr, "compare --vectors FILE.cases | --convert FILE.cases | --old-records SEED COUNT | --random SEED "
+                         "COUNT\n");
     return 2;
 }

@@ -624,7 +624,11 @@ struct Record {
     Bytes lambda, delta;
 };
 
-inline Record parse(const Bytes& bytes)
+// Old records, which only the program convert takes, have one byte an entry where N is at most 256; the tag of the first
+// row says which.
+enum class Rows { wide, either };
+
+inline Record parse(const Bytes& bytes, Rows allowed = Rows::wide)
 {
     Fields fields(bytes);
     Record r;
@@ -635,10 +639,11 @@ inline Record parse(const Bytes& bytes)
     demand_dimension(r.n);
     demand_darts(r.darts);
     demand_height(r.h);
+    const bool one_byte = allowed == Rows::either && r.darts <= 256 && fields.tag() == 0x20;
     for (unsigned i = 0; i <= r.n; i++) {
-        const Bytes row = fields.next(0x10 + i, 2 * r.darts);
+        const Bytes row = fields.next((one_byte ? 0x20 : 0x10) + i, (one_byte ? 1 : 2) * r.darts);
         for (unsigned d = 0; d < r.darts; d++)
-            r.rows.push_back(std::uint16_t(row[2 * d] + 256u * row[2 * d + 1]));
+            r.rows.push_back(std::uint16_t(one_byte ? row[d] : row[2 * d] + 256u * row[2 * d + 1]));
     }
     r.lambda = fields.next(0x30, r.darts);
     r.delta = fields.next(0x31, r.darts);
@@ -946,7 +951,24 @@ inline Base rebase(unsigned n, unsigned darts, unsigned h, Entries& rows, Bytes&
     return {unsigned(kept.size()), h - level};
 }
 
-// ---------------------------------------------------------------- the program
+// ---------------------------------------------------------------- the programs again
+
+// What the program convert writes, as the vectors have it: the bytes as a list, then " / " and its error line.
+inline std::string convert(const Bytes& bytes)
+{
+    try {
+        const Record r = parse(bytes, Rows::either);
+        Entries table(r.rows.size());
+        Bytes record(49180);
+        record.resize(write(r.n, r.darts, r.h, r.rows, r.lambda, r.delta, table, record));
+        std::string text = std::to_string(record.size());
+        for (const unsigned byte : record)
+            text += ' ' + std::to_string(byte);
+        return text;
+    } catch (const Refusal& r) {
+        return "0 / " + said(r);
+    }
+}
 
 // What the program levels prints, its lines joined by " / ".
 inline std::string levels(const Bytes& bytes)

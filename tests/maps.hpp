@@ -414,15 +414,21 @@ inline void put_on_top(Pyramid& p, const Kernel& kernel)
     p.h++;
 }
 
-inline Pyramid random_pyramid(Random& r, unsigned n, unsigned most_darts, unsigned height, unsigned percent)
+// Puts random kernels on a base up to a height.
+inline void grow(Random& r, Pyramid& p, unsigned height, unsigned percent)
 {
-    Pyramid p = begin(random_map(r, n, most_darts));
     const Kinds kinds = random_kinds(r);
     while (p.h < height) {
         const Kernel kernel = random_kernel(r, p.levels.back(), kinds, percent);
         put_on_top(p, kernel);
         p.levels.push_back(independent::reduce(p.levels.back(), kernel));
     }
+}
+
+inline Pyramid random_pyramid(Random& r, unsigned n, unsigned most_darts, unsigned height, unsigned percent)
+{
+    Pyramid p = begin(random_map(r, n, most_darts));
+    grow(r, p, height, percent);
     return p;
 }
 

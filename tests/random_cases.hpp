@@ -367,14 +367,12 @@ inline void put_field(Bytes& record, std::vector<std::size_t>& starts, unsigned 
     record.insert(record.end(), body.begin(), body.end());
 }
 
-// The record of a case's pyramid, and where its fields start.
-inline Bytes record_of(Random& r, const Case& c, std::vector<std::size_t>& starts)
+// The record of a case's pyramid, and where its fields start. One byte an entry is a kind that isn't taken any more.
+inline Bytes record_of(const Case& c, bool one_byte, std::vector<std::size_t>& starts)
 {
     Bytes record;
     put_field(record, starts, 0x01,
               {std::uint8_t(c.n), std::uint8_t(c.h), std::uint8_t(c.darts & 255), std::uint8_t(c.darts >> 8)});
-    // One byte an entry is a kind that isn't taken any more.
-    const bool one_byte = c.darts <= 256 && r.chance(10);
     for (unsigned i = 0; i <= c.n; i++) {
         Bytes body;
         for (std::size_t k = std::size_t(i) * c.darts; k < std::size_t(i + 1) * c.darts; k++) {
@@ -423,7 +421,7 @@ inline void ask(Random& r, Case& c)
         if (c.lambda[d] < c.level)
             continue;
         c.dart = d;
-        if (c.lambda[met] < c.level)
+        if (met >= c.darts || c.lambda[met] < c.level)
             break;
     }
 }
@@ -468,21 +466,27 @@ inline void lend_level(Random& r, Case& c, const Pyramid& source)
     c.involution = r.below(c.n);
 }
 
+// Memory for what a record holds, of its size or somewhat longer.
+inline void lend_for_record(Random& r, Case& c)
+{
+    const unsigned more = r.chance(50) ? r.below(20) : 0;
+    c.rows = junk<Entries>(r, c.rows.size() + more);
+    c.lambda = junk<Bytes>(r, c.lambda.size() + more);
+    c.delta = junk<Bytes>(r, c.delta.size() + r.below(more + 1));
+    c.table = junk<Entries>(r, c.table.size() + r.below(more + 1));
+}
+
 inline void lend_record(Random& r, Case& c)
 {
     if (r.chance(40))
         for (unsigned times = r.between(1, 3); times; times--)
             r.chance(50) ? damage_rows(r, c.rows, c.darts) : damage_marks(r, c, r.chance(50) ? c.lambda : c.delta);
     std::vector<std::size_t> starts;
-    c.bytes = record_of(r, c, starts);
+    c.bytes = record_of(c, c.darts <= 256 && r.chance(10), starts);
     if (r.chance(c.what == TAKE ? 65 : 40))
         for (unsigned times = r.between(1, 2); times; times--)
             damage_record(r, c.bytes, starts);
-    const unsigned more = r.chance(50) ? r.below(20) : 0;
-    c.rows = junk<Entries>(r, c.rows.size() + more);
-    c.lambda = junk<Bytes>(r, c.lambda.size() + more);
-    c.delta = junk<Bytes>(r, c.delta.size() + r.below(more + 1));
-    c.table = junk<Entries>(r, c.table.size() + r.below(more + 1));
+    lend_for_record(r, c);
     if (r.chance(20))
         r.chance(50) ? change_length(r, r.chance(50) ? c.rows : c.table)
                      : change_length(r, r.chance(50) ? c.lambda : c.delta);
@@ -567,17 +571,15 @@ inline void drop_the_rest(Case& c)
         c.old.clear();
 }
 
-inline Case random_case(Random& r, const Pyramid& source)
+// What a job is lent and asked of a source; for a job that takes a record, the pyramid that it is to hold.
+inline Case undamaged_case(Random& r, job what, const Pyramid& source)
 {
     Case c;
-    c.what = job(r.below(JOBS));
+    c.what = what;
     lend_pyramid(r, c, source);
     ask(r, c);
     if (c.what == MARK)
         lend_level(r, c, source);
-    const bool record = c.what == TAKE || c.what == LEVELS || c.what == CENSUS_PROGRAM;
-    if (record)
-        lend_record(r, c);
     if (c.what == WRITE)
         lend_buffer(r, c);
     if (c.what == DECIMATION && c.h > 0 && r.chance(90))
@@ -586,6 +588,15 @@ inline Case random_case(Random& r, const Pyramid& source)
         lend_partner(r, c);
     if (c.what == JOIN && c.h > 1 && r.chance(90))
         c.level = r.below(c.h - 1);
+    return c;
+}
+
+inline Case random_case(Random& r, const Pyramid& source)
+{
+    Case c = undamaged_case(r, job(r.below(JOBS)), source);
+    const bool record = c.what == TAKE || c.what == LEVELS || c.what == CENSUS_PROGRAM;
+    if (record)
+        lend_record(r, c);
     drop_the_rest(c);
     if (!record)
         damage(r, c);

@@ -1,9 +1,11 @@
 #!/bin/bash
 # Compares the library with the vectors, with an independent implementation and with CGAL, builds and runs the examples,
-# runs the Rust tests, and holds the pages of docs/ to the sources. tests/README.md says what each part is.
+# runs the Rust tests, holds each job to its budget, makes the release, and holds the pages of docs/ to the sources.
+# tests/README.md says what each part is.
 #
 #   LIB       the library, default target/staticlib/libzompelgors.a; REGIONS the second, beside it
 #   COUNT     random cases, default 1,000,000; SEED the first seed, default 1
+#   CALLS     calls with mutated inputs, default 200,000; tests/mutate.sh makes them for ten minutes
 #   PYRAMIDS  pyramids compared with CGAL, default 5,000
 #   BUILD     where the programs are built, default target/tests
 #   EMULATE   set on x86-64 to do as on other machines: cross compiler and emulator
@@ -12,13 +14,15 @@
 # 1 if one did, 2 if there is no library.
 set -u
 source "$(dirname "$0")/tools.sh"
-COUNT=${COUNT:-1000000} SEED=${SEED:-1} PYRAMIDS=${PYRAMIDS:-5000} BUILD=${BUILD:-target/tests}
+COUNT=${COUNT:-1000000} CALLS=${CALLS:-200000} SEED=${SEED:-1} PYRAMIDS=${PYRAMIDS:-5000} BUILD=${BUILD:-target/tests}
 TARGET=x86_64-unknown-linux-gnu
 
 need_compiler
 need "${for_cxx[0]}" "$CXX" --version
 [ "$LIB" != c ] || need "$binutils" "$OBJCOPY" --version
 need python3 python3 --version
+need qemu-user qemu-x86_64 --version
+[ "$CC" = gcc ] || need gcc gcc --version # of this machine, for the plug-in that counts instructions
 need libcgal-dev test -f /usr/include/CGAL/Generalized_map.h
 need cargo cargo --version
 say_lacking
@@ -104,7 +108,6 @@ for cases in tests/vectors/*.cases; do
     name=${cases##*/}
     names+=("${name%.cases}")
 done
-build_call() { "$CC" "${cflags[@]}" -O2 -c tests/call.c -o "$BUILD/call.o"; }
 build_answer() {
     build_call && "$CC" "${cflags[@]}" -O2 tests/answer.c "$BUILD/call.o" "${LIBS[@]}" -o "$BUILD/answer"
 }
@@ -161,7 +164,16 @@ if can "independent implementation" "${for_cxx[@]}" && built "independent implem
         vectors tests/vectors "$name" "independent implementation" \
             "${run[@]}" "$BUILD/compare" --vectors "tests/vectors/$name.cases"
     done
+    vectors tests/vectors/old convert "independent implementation" \
+        "${run[@]}" "$BUILD/compare" --convert tests/vectors/old/convert.cases
+    "${run[@]}" "$BUILD/compare" --old-records "$SEED" 500 >"$BUILD/old.cases"
+    "${run[@]}" "$BUILD/compare" --convert "$BUILD/old.cases" >"$BUILD/old.answers"
+    program "program convert, random records" convert convert convert "$BUILD/old"
     report "random, large and damaged" "$BUILD/random.txt" "${run[@]}" "$BUILD/compare" --random "$SEED" "$COUNT"
+fi
+if can "mutated inputs" "${for_cxx[@]}" && built "mutated inputs" build_mutate; then
+    report "mutated inputs" "$BUILD/mutate.txt" \
+        "${run[@]}" "$BUILD/mutate" --calls "$CALLS" "$SEED" samples/*.record
 fi
 if can "CGAL" "${for_cxx[@]}" libcgal-dev &&
     built "CGAL" "$CXX" "${cxxflags[@]}" "${cgalflags[@]}" -O2 tests/cgal.cpp "$LIB" -o "$BUILD/cgal"; then
@@ -246,6 +258,21 @@ elif can "Rust" cargo "$TARGET" "${for_c[@]}"; then
     fi
 fi
 
+# ---------------------------------------------------------------- budgets, the release, and the pages
+
+# budgets: every call that bench/budget.sh counts, with fewer random ones, is within its formula.
+budgets() {
+    LIB=$LIB REGIONS=$REGIONS BUILD=$BUILD/budget SEED=$SEED CASES=500 bench/budget.sh >"$BUILD/budgets.md" || return 1
+    echo "$(wc -l <"$BUILD/budget/facts") calls counted, each within its formula"
+}
+if [ "${LIB##*/}" != libzompelgors.a ]; then
+    echo "budgets, release: left out, they are of the library itself"
+    left_out=$((left_out + 2))
+else
+    ! can "budgets" python3 qemu-user gcc "${for_cxx[@]}" || report "budgets" "$BUILD/budgets.txt" budgets
+    ! can "release" "${for_c[@]}" ||
+        report "release" "$BUILD/release.txt" env LIB="$LIB" REGIONS="$REGIONS" ./release.sh --install "$BUILD/installed"
+fi
 if can "pages of docs/ against the sources" python3; then
     report "pages of docs/ against the sources" "$BUILD/pages.txt" python3 tests/pages.py
 fi

@@ -1,4 +1,5 @@
-# What the two run.sh have in common: the tools for x86-64 programs on this machine, and the library. To be sourced.
+# What the scripts that build over the library have in common: the tools for x86-64 programs on this machine, and the
+# library. To be sourced.
 #
 # LIB is the library to link, REGIONS the second one; LIB=c puts the plain C of bench/ in their place, to try the tests
 # and the C themselves.
@@ -70,13 +71,15 @@ can() {
 # library DIRECTORY: makes sure that there are both libraries to link, and sets LIBS to them.
 library() {
     if [ "$LIB" = c ]; then
-        local job rename=(--redefine-sym plain_read_by_levels_skipping=zg_skipping)
+        local job rename=()
         for job in version check_base check add marks_of read read_by_levels unfold row survivors mark_cells take \
             write decimation census import export regions join rebase; do
             rename+=(--redefine-sym "plain_$job=zg_$job")
         done
         "$CC" "${cflags[@]}" -O3 -c bench/plain.c -o "$1/standin.o" || exit 2
+        # What else it has stays its own: the bench links the plain C beside it.
         "$OBJCOPY" "${rename[@]}" "$1/standin.o" || exit 2
+        "$OBJCOPY" -w --keep-global-symbol='zg_*' "$1/standin.o" || exit 2
         LIB=$1/standin.o LIBS=("$1/standin.o")
         echo "the plain C of bench/ stands in the library's place"
         return
@@ -88,4 +91,10 @@ library() {
         echo "there is no $archive; 'rt staticlib zompelgors' and 'rt staticlib zompelgors_regions' make both" >&2
         exit 2
     done
+}
+
+# The calls between guards, and what is linked with them into BUILD.
+build_call() { "$CC" "${cflags[@]}" -O2 -c tests/call.c -o "$BUILD/call.o"; }
+build_mutate() {
+    build_call && "$CXX" "${cxxflags[@]}" -O2 tests/mutate.cpp "$BUILD/call.o" "${LIBS[@]}" -o "$BUILD/mutate"
 }
