@@ -1,18 +1,25 @@
 #!/usr/bin/env python3
 """Holds the pages of docs/ to the sources: public functions, theorems of one outcome, wrong programs, definitions and
-their lines, headings that are cited; and the C header to the crates: names of refusals, version, width.
+their lines, names and files of docs/DEMANDS.md and docs/CONTRACTS.md, functions of the C interface in README.md
+and docs/BUDGETS.md, the formulas of bench/budget.py, headings that are cited; and the C header to the crates: names of refusals, version, width.
 
 tests/pages.py            says what differs, and fails if anything does
 tests/pages.py --write    writes docs/DEFINITIONS.md anew
 """
+import importlib.util
 import re
 import sys
+from functools import lru_cache
 from pathlib import Path
 
 ROOT = Path(__file__).resolve().parent.parent
 CRATES = ROOT / "crates"
-# the definitions that the answers of the jobs are read by; all else that a contract cites is in crates/maps/specs
-ANSWERS = ["answers/specs/Numbers", "answers/specs/Marked", "answers/specs/Lent", "questions/specs/Answers", "reading/specs/Answers", "rows/specs/Answers", "checking/specs/Answers", "records/specs/Answers", "taking/specs/Answers", "writing/specs/Answers", "shrinking/specs/Answers", "converting/specs/Answers", "joining/specs/Answers", "zompelgors/specs/Flat", "zompelgors_regions/specs/Flat"]
+NAMED_PAGES = ["docs/DEMANDS.md", "docs/CONTRACTS.md"]
+TOLD_PAGES = ["README.md", "docs/SCOPE.md", "docs/INTEGRATING.md", "docs/BUDGETS.md", "docs/DECISIONS.md"]
+# of the language and the prover; f stands for any function
+LANGUAGE = {"requires", "Learnt", "returns", "loop-again", "f-requires", "f-one"}
+# a definition begins so; the other declarations that are public are theorems and fields
+DEFINITION = r"\s*(?:(?:abbrev|unfoldable) (?:pub )?|pub (?:data|record) )(\S+)"
 
 
 def public_functions(crate):
@@ -23,47 +30,265 @@ def public_functions(crate):
     return {f"{crate}::{name}" for name in names}
 
 
+@lru_cache(None)
+def all_public():
+    """Of all crates but programs, which is no job: what it prints is compared, not proved."""
+    libraries = {p.parent.parent.name for p in CRATES.glob("*/src/lib.rt")} - {"programs"}
+    return frozenset().union(*map(public_functions, libraries))
+
+
+@lru_cache(None)
+def signature(name):
+    """The file of a public function, and its text up to the body."""
+    crate, function = name.split("::")
+    for path in sorted((CRATES / crate / "src").glob("*.rt")):
+        m = re.search(rf'^pub (?:extern "C" )?fn {function}\b.*?^{{', path.read_text(), re.M | re.S)
+        if m:
+            return path, m[0]
+    raise SystemExit(f"{name} is not found in crates/{crate}/src")
+
+
 def asks_its_caller(name):
     """Has a function a `requires`? Only functions below the jobs may; what they leave open is their caller's affair."""
-    crate, function = name.split("::")
-    for path in (CRATES / crate / "src").glob("*.rt"):
-        m = re.search(rf"^pub fn {function}\b.*?^{{", path.read_text(), re.M | re.S)
-        if m:
-            return "requires" in m[0]
-    return False
+    return "requires" in signature(name)[1]
 
 
-def definitions(path):
-    """(name, line) of each definition of a file."""
-    found = []
-    for line, text in enumerate(path.read_text().split("\n"), 1):
-        m = re.match(r"\s*(?:abbrev|unfoldable) (?:pub )?(\S+) :", text) or re.match(r"pub (?:data|record) (\S+)", text)
-        if m:
-            found.append((m[1], line))
+# ---- definitions
+
+
+@lru_cache(None)
+def text(path):
+    return path.read_text()
+
+
+@lru_cache(None)
+def imports(path):
+    """{name as used: (file, its name there)} of what a source uses of crates/*/specs and crates/*/proofs."""
+    found = {}
+    for crate, folder, file, names in re.findall(r"^(?:ghost )?use Rattle·(\w+)(?:·\w+)?\.(specs|proofs)\.(\w+)\.\{([^}]*)\}", text(path), re.M):
+        for item in names.split(","):
+            first, _, last = item.strip().partition(" as ")
+            found[last or first] = (CRATES / crate / folder / f"{file}.antt", first)
     return found
+
+
+@lru_cache(None)
+def definitions(path):
+    """{name: line} of each definition of a file."""
+    lines = text(path).split("\n")
+    return {m[1]: number for number, m in enumerate((re.match(DEFINITION, line) for line in lines), 1) if m}
+
+
+@lru_cache(None)
+def declared(path):
+    """All names that a source declares: definitions, theorems and fields, or functions, structs and enums."""
+    if path.suffix == ".rt":
+        return frozenset(re.findall(r"^(?:pub(?:\(crate\))? )?(?:extern \"C\" )?(?:fn|struct|enum) (\w+)", text(path), re.M))
+    cases = [re.findall(r"^ +(\S+) :", data, re.M) for data in re.findall(r"^ *pub data .*?(?=\n\n|\Z)", text(path), re.M | re.S)]
+    return frozenset(definitions(path)).union(re.findall(r"^\s*pub (\S+) :", text(path), re.M), *cases)
+
+
+def words(statement):
+    return set(re.findall(r"[^\s(){}\[\],;.]+", statement))
+
+
+def modules_around(before, indent):
+    """What the modules take as given in which a declaration of this indent stands, `before` being all above it."""
+    heads = re.findall(r"^( *)(module .*?\bwhere)$", before, re.M | re.S)
+    given = []
+    for spaces, head in reversed(heads):
+        if len(spaces) < indent:
+            indent = len(spaces)
+            given.append(head)
+    return " ".join(given)
+
+
+@lru_cache(None)
+def paragraph(path, name):
+    """What stands from a name's declaration on to the next empty line; of a theorem its statement, with what its modules take as given."""
+    m = re.search(rf"^( *)(?:abbrev |unfoldable )?(?:pub )?(?:data |record )?{re.escape(name)} .*?(?=\n\s*\n|\Z)", text(path), re.M | re.S)
+    if not m or name in definitions(path):
+        return m[0] if m else ""
+    return re.split(rf"\n\s*(?:unfolding |{re.escape(name)} )", m[0])[0] + " " + modules_around(text(path)[: m.start()], len(m[1]))
+
+
+@lru_cache(None)
+def rests_on(path, statement):
+    """The (file, name) of the definitions that a statement of a source names."""
+    used = words(statement)
+    own = {(path, name) for name in used & set(definitions(path))} if path.suffix == ".antt" else set()
+    other = {imports(path)[name] for name in used & set(imports(path))}
+    return frozenset(own | {(file, name) for file, name in other if file.exists() and name in definitions(file)})
+
+
+def closure(start):
+    """Those definitions, and all that they name in turn."""
+    reached, waiting = set(), set(start)
+    while waiting:
+        path, name = waiting.pop()
+        reached.add((path, name))
+        waiting |= set(rests_on(path, paragraph(path, name))) - reached
+    return reached
+
+
+def of_contracts(names):
+    """The definitions that the contracts of these functions rest on."""
+    start = set()
+    for name in names:
+        path, head = signature(name)
+        start |= rests_on(path, re.split(r"^ +(?=requires|ensures)", head, maxsplit=1, flags=re.M)[-1])
+    return closure(start)
+
+
+def of_theorems():
+    """The definitions that the statements of the theorems named on the pages rest on."""
+    start = set()
+    for _, _, names, files in named_rows():
+        for path in files:
+            if path.suffix == ".antt" and path.is_file():
+                for name in {name.split(" ")[0] for name in names} & declared(path):
+                    start |= rests_on(path, paragraph(path, name)) | ({(path, name)} if name in definitions(path) else set())
+    return closure(start)
+
+
+def is_public(path, name):
+    """A shorthand that a file makes for itself is not."""
+    return re.search(rf"^\s*(?:abbrev |unfoldable )?pub (?:data |record )?{re.escape(name)} ", text(path), re.M) is not None
+
+
+def rows_of(found, whole):
+    """A line of docs/DEFINITIONS.md for each file, with all its definitions or those found alone."""
+    rows = []
+    for path in sorted({path for path, _ in found}, key=lambda p: (p.parent.parent.name != "maps", str(p))):
+        names = definitions(path) if whole else {name: line for name, line in definitions(path).items() if (path, name) in found}
+        what = text(path).split("\n")[0].removeprefix("-- ").split(". ")[0]
+        listed = ", ".join(f"`{name}` {line}" for name, line in sorted(names.items(), key=lambda item: item[1]))
+        rows.append(f"| {path.relative_to(ROOT)} | {what} | {listed} |")
+    return "| File | Holds | Definitions |\n|---|---|---|\n" + "\n".join(rows) + "\n"
 
 
 def definitions_page():
     """docs/DEFINITIONS.md."""
-    files = sorted(p for p in (CRATES / "maps" / "specs").glob("*.antt") if p.stem != "Lib")
-    files += [CRATES / f"{name}.antt" for name in ANSWERS]
-    rows, total, lines = [], 0, 0
-    for path in files:
-        found = definitions(path)
-        total += len(found)
-        lines += len(path.read_text().splitlines())
-        what = path.read_text().split("\n")[0].removeprefix("-- ").split(". ")[0]
-        names = ", ".join(f"`{name}` {line}" for name, line in found)
-        rows.append(f"| {path.relative_to(ROOT)} | {what} | {names} |")
+    maps = {(p, name) for p in (CRATES / "maps" / "specs").glob("*.antt") for name in definitions(p)}
+    jobs = maps | of_contracts(name for name in all_public() if not asks_its_caller(name))
+    files = {path for path, _ in jobs}
+    below = {(p, name) for p, name in of_contracts(all_public()) if p not in files}
+    theorems = {(p, name) for p, name in of_theorems() if p not in files and (p, name) not in below and is_public(p, name)}
+    total, lines = sum(len(definitions(p)) for p in files), sum(len(text(p).splitlines()) for p in files)
     return (
         "# What a reader must believe\n\n"
-        "The contract of every public function and every theorem that is promised speak by these definitions alone; each has the sentence that it states above it. "
-        "The files hold nothing else. The number after a name is its line.\n\n"
-        f"{total} definitions in {len(files)} files of {lines} lines.\n\n"
-        "| File | Holds | Definitions |\n|---|---|---|\n" + "\n".join(rows) + "\n\n"
-        "The statements of the theorems that are promised (docs/DEMANDS.md, docs/CONTRACTS.md) speak by them too, and `OneOutcome` of "
-        "crates/outcomes/proofs/One.antt says what it is for a contract to leave one outcome.\n"
+        "The contract of every job and of every function for C speaks by the definitions of the first table alone; each has the sentence that it states above it. "
+        "The files hold nothing else. The number after a name is its line. Numbers, lists, integers and doubles are the toolchain's own.\n\n"
+        f"{total} definitions in {len(files)} files of {lines} lines.\n\n" + rows_of(jobs, True) + "\n"
+        "## Below the jobs\n\n"
+        "The contracts of functions that ask something of their caller (docs/CONTRACTS.md) speak by these too. Nothing that a job promises rests on them.\n\n"
+        + rows_of(below, False) + "\n"
+        "## In theorems\n\n"
+        "The statements of the theorems that docs/DEMANDS.md and docs/CONTRACTS.md name speak by these too: what a theorem says where it says several things at once, "
+        "and the small maps. Shorthands that a file makes for itself are left out.\n\n" + rows_of(theorems, False)
     )
+
+
+# ---- names and files on the pages
+
+
+def cells(line):
+    return [cell.strip() for cell in line.strip().strip("|").split("|")]
+
+
+def tables(page):
+    """(line number, heading, header, row) of each row of the tables of a page."""
+    heading, header = "", []
+    for number, line in enumerate((ROOT / page).read_text().split("\n"), 1):
+        if line.startswith("#"):
+            heading = line.lstrip("# ")
+        if not line.startswith("|"):
+            header = []
+        elif not header:
+            header = cells(line)
+        elif not line.startswith("|---"):
+            yield number, heading, header, cells(line)
+
+
+def files_in(cell):
+    """The files of a cell such as 'maps/specs: Map, Cell; levels: stdout': under crates/ or the root, .antt if none is given."""
+    found = []
+    for part in filter(None, (part.strip() for part in cell.split(";"))):
+        folder, _, names = part.partition(": ")
+        start = CRATES / folder if (CRATES / folder).is_dir() else ROOT / folder
+        for name in names.split(", "):
+            found.append(start / name if (start / name).is_file() else start / f"{name}.antt")
+    return found
+
+
+@lru_cache(None)
+def named_rows():
+    """(page, line, names, files) of each row whose last column is 'File'."""
+    found = []
+    for page in NAMED_PAGES:
+        for number, _, header, row in tables(page):
+            if header[-1] == "File":
+                names = re.findall(r"`([^`]+)`", " ".join(row[:-1]))
+                found.append((page, number, names, files_in(row[-1])))
+    return found
+
+
+def name_differences():
+    """Every name of a row is declared in a file of that row, and every source of a row declares a name of it."""
+    for page, number, names, files in named_rows():
+        for path in files:
+            if not path.is_file():
+                yield f"{page}:{number} names {path.relative_to(ROOT)}, which is no file"
+        sources = [path for path in files if path.is_file() and path.suffix in (".antt", ".rt")]
+        for name in names:
+            known = name in all_public() if "::" in name else any(set(name.split(" .")) <= declared(path) for path in sources)
+            if not known:
+                yield f"{page}:{number}: no file of the row declares {name}"
+        for path in sources:
+            if not any(name.split(" .")[0] in declared(path) for name in names):
+                yield f"{page}:{number}: {path.relative_to(ROOT)} declares no name of the row"
+
+
+def contract_differences():
+    """Where a row names functions, the definitions of crates/maps/specs that it names are those that their contracts rest on."""
+    for page, number, names, files in named_rows():
+        functions = [name for name in names if name in all_public()]
+        reached = {name for _, name in of_contracts(functions)}
+        specs = [path for path in files if path.is_file() and path.parent == CRATES / "maps" / "specs"]
+        for name in names if functions else []:
+            if name not in reached and any(name in definitions(path) for path in specs):
+                yield f"{page}:{number}: no contract of the row rests on {name}"
+
+
+def prose_differences():
+    """A name that stands outside those tables is declared somewhere; on other pages, one that is spelt as a theorem is."""
+    known = LANGUAGE.union(*(declared(p) for p in CRATES.glob("*/*/*") if p.suffix in (".antt", ".rt")))
+    for page in NAMED_PAGES + TOLD_PAGES:
+        named = {number for number, _, header, _ in tables(page) if header[-1] in ("File", "Refused at")}
+        spelling = r"`([a-zA-Z_][^`\s:/]*)`" if page in NAMED_PAGES else r"`([a-z]+(?:-[a-z]+)+)`"
+        for number, line in enumerate((ROOT / page).read_text().split("\n"), 1):
+            for name in re.findall(spelling, line) if number not in named else []:
+                if name not in known:
+                    yield f"{page}:{number} names {name}, which nothing declares"
+
+
+def edit_differences():
+    """The edits under must-fail/ and those told; the function at which one is refused is of its crate."""
+    edits = {f"{p.parent.parent.name}/{p.stem}" for p in CRATES.glob("*/must-fail/*.edit")}
+    told = set()
+    for page in NAMED_PAGES:
+        for number, _, header, row in tables(page):
+            if header[-1] == "Refused at":
+                edit = row[header.index("Edit")]
+                told.add(edit)
+                functions = set().union(*(declared(p) for p in (CRATES / edit.split("/")[0] / "src").glob("*.rt")))
+                if not edit.startswith("maps/") and not set(re.findall(r"`(\w+)`:", row[-1])) & functions:
+                    yield f"{page}:{number}: refused at no function of the crate"
+    for name in sorted(edits ^ told):
+        yield f"the pages and must-fail/ differ in {name}"
+
+
+# ---- the header, and headings
 
 
 def spelt(variant):
@@ -95,27 +320,50 @@ def cited_differences():
                 yield f"{path.relative_to(ROOT)} cites '{name}', which is no heading of docs/SCOPE.md"
 
 
-def differences():
-    # what the programs share is no job: what it prints is compared, not proved
-    libraries = [p.parent.parent.name for p in CRATES.glob("*/src/lib.rt") if p.parent.parent.name != "programs"]
-    public = set().union(*(public_functions(crate) for crate in libraries))
-    page = (ROOT / "docs" / "CONTRACTS.md").read_text()
-    named = set(re.findall(r"`(\w+::[a-z]\w*)`", page))
-    for name in sorted(public ^ named):
-        yield f"docs/CONTRACTS.md and the sources differ in the public function {name}"
+# ---- functions
 
+
+def function_differences():
+    """Every public function has its row in docs/CONTRACTS.md, and where it asks nothing its theorem of one outcome."""
+    named = set(re.findall(r"`(\w+::[a-z]\w*)`", (ROOT / "docs" / "CONTRACTS.md").read_text()))
+    for name in sorted(all_public() ^ named):
+        yield f"docs/CONTRACTS.md and the sources differ in the public function {name}"
     theorems = "".join((CRATES / "outcomes" / "proofs" / f).read_text() for f in ("Jobs.antt", "Interface.antt"))
-    for name in sorted(name for name in public if not asks_its_caller(name)):
+    for name in sorted(name for name in all_public() if not asks_its_caller(name)):
         theorem = name.split("::")[1].replace("_", "-") + "-one"
         if not re.search(rf"^pub {re.escape(theorem)} :", theorems, re.M):
             yield f"there is no theorem {theorem} of {name}"
 
-    edits = {f"{p.parent.parent.name}/{p.stem}" for p in CRATES.glob("*/must-fail/*.edit")}
-    pages = page + (ROOT / "docs" / "DEMANDS.md").read_text()
-    told = set(re.findall(r"\| (\w+/\w+) \|", pages))
-    for name in sorted(edits ^ told):
-        yield f"the pages and must-fail/ differ in {name}"
 
+def interface_differences():
+    """Every function of the headers has its row in README.md and in the tables of docs/BUDGETS.md."""
+    headers = "".join(path.read_text() for path in (ROOT / "include").glob("*.h"))
+    due = set(re.findall(r"^\w+ (zg_\w+)\(", headers, re.M))
+    for page, column in (("README.md", "Crate"), ("docs/BUDGETS.md", "Bytes"), ("docs/BUDGETS.md", "others")):
+        told = {name for _, _, header, row in tables(page) if column in header for name in re.findall(r"zg_\w+", row[0])}
+        for name in sorted(due ^ told):
+            yield f"{page} and the headers differ in {name}, by the table with '{column}'"
+
+
+def budget_differences():
+    """docs/BUDGETS.md has what bench/budget.py says is lent and read, and its formulas."""
+    found = importlib.util.spec_from_file_location("budget", ROOT / "bench" / "budget.py")
+    budget = importlib.util.module_from_spec(found)
+    found.loader.exec_module(budget)
+    printed = (ROOT / "docs" / "BUDGETS.md").read_text().splitlines()
+    for row in [*budget.lent_rows(), *budget.read_rows(), *budget.formula_rows()]:
+        if row not in printed:
+            yield f"docs/BUDGETS.md hasn't the row that bench/budget.py prints: {row}"
+
+
+def differences():
+    yield from function_differences()
+    yield from interface_differences()
+    yield from budget_differences()
+    yield from name_differences()
+    yield from contract_differences()
+    yield from prose_differences()
+    yield from edit_differences()
     if (ROOT / "docs" / "DEFINITIONS.md").read_text() != definitions_page():
         yield "docs/DEFINITIONS.md is not what --write writes"
     yield from header_differences()
