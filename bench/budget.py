@@ -131,10 +131,6 @@ READS = [
      "`readBase` in ByLevels.antt and `any-tables` in AnyTables.antt"),
     ("zg_unfold, on any tables", "(n+1)N(1 + 2N)", 167792640,
      "one walk for each entry, up to the first refusal: the definitions `walk` and `unfoldLent`"),
-    ("zg_regions, behind its check", "(n+1)N", 20480,
-     "each dart stands once in one queue: `Queued` in crates/orbits/specs/Orbits.antt"),
-    ("zg_census, behind its check: for each level the base is copied and climbed", "(h+1)(n+1)N", 675840,
-     "seen in the code"),
 ]
 
 # The dearest call that a job can be asked for, by its formula: everything at its most.
@@ -163,7 +159,9 @@ A walk's count is the number of base entries that it reads; that the code reads 
 """
 
 READS_BEHIND = """
-Counts in a refusal are 0, though entries were read. A reading by levels makes, for each entry read, at most one call of itself for each level from l down to 0. The other jobs return no count of reads; what they read is in their formula below, by instructions.
+Counts in a refusal are 0, though entries were read. The other jobs return no count of reads; what they read is in their formula below, by instructions.
+
+Seen in the code, and no theorem: a reading by levels makes, for each entry read, at most one call of itself for each level from l down to 0; behind its check zg_regions reads each entry of the base at most once, since each dart stands once in one queue (`Queued` in crates/orbits/specs/Orbits.antt); behind its check zg_census copies the base once for each level, (h+1)(n+1)N entries, and climbs in the copy.
 """
 
 FORMULAS_TEXT = """
