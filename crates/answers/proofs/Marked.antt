@@ -20,7 +20,7 @@ goes-told mark t g e = rw e at g
 
 module _ (n N h : ℕ) (lambda delta : List ℕ) (l : ℕ) where
   abbrev at-marks : ℕ → Verdict
-  at-marks = atMarks8 n N h lambda delta l []
+  at-marks = atMarks8 n h (each lambda) (each delta) l
 
   -- marks of the darts below m are allowed
   abbrev pub AllowedTo : ℕ → Type 0

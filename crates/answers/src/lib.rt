@@ -1,25 +1,47 @@
 // What all jobs share: levels, dimensions and marks, each way to be refused, and its numbers. Assumes nothing.
+mod limits; // limits.rt: the numbers that the document names
 mod marks; // marks.rt: what a mark lets a walk do, and number 8
-mod tables; // tables.rt: an entry of a table
+mod tables; // tables.rt: an entry of a table, Λ and Δ of a dart
 mod tests; // tests.rt: the tests of sizes, of exact lengths and of the level asked
 
+pub use limits::ABSENT;
+pub use limits::CONTRACTED;
+pub use limits::LEVELS;
+pub use limits::MOST_BYTES;
+pub use limits::MOST_DARTS;
+pub use limits::MOST_DIMENSION;
+pub use limits::MOST_ENTRIES;
+pub use limits::MOST_HEIGHT;
+pub use limits::MOST_ROWS;
+pub use limits::PARTNER_DARTS;
+pub use limits::ROOM;
+pub use limits::STAY;
 pub use marks::between;
 pub use marks::beyond;
+pub use marks::contracts;
 pub use marks::has_beyond;
 pub use marks::is_mark;
 pub use marks::marks_refusal;
 pub use marks::marks_refused;
+pub use marks::removes;
 pub use marks::row_across;
+pub use marks::same_mark;
 pub use tables::at;
+pub use tables::commute;
+pub use tables::delta_at;
+pub use tables::in_kernel;
+pub use tables::is_gone;
+pub use tables::lambda_at;
+pub use tables::survivors_on;
 pub use tables::there;
 pub use tests::asked;
 pub use tests::both;
 pub use tests::entries;
+pub use tests::in_range;
 pub use tests::lent;
 pub use tests::pyramid_fits;
 pub use tests::row_fits;
 pub use tests::rows_fit;
-pub use tests::sizes;
 ghost use mathlib.Core.Path.{_≡_};
 ghost use Rattle.answers.specs.Numbers.{refusalOf, said};
 
@@ -39,6 +61,19 @@ pub struct Passage(pub Dim, pub Dim);
 pub enum Onward {
     By(Dim),
     Nowhere,
+}
+
+// n, h and N of the pyramid lent.
+pub struct Sizes {
+    pub n: Dim,
+    pub h: Level,
+    pub darts: u16,
+}
+
+// The same, with the level that a job is asked.
+pub struct AtLevel {
+    pub sizes: Sizes,
+    pub level: Level,
 }
 
 // What a reading is asked: a level, an involution and a dart; 0 where a job is asked less.

@@ -1,9 +1,12 @@
 // The tests that a job begins with: sizes, exact lengths, and the level asked. Assumes nothing.
 use super::Check;
 use super::Dim;
-use super::Level;
+use super::MOST_DARTS;
+use super::MOST_DIMENSION;
+use super::MOST_HEIGHT;
 use super::Question;
 use super::Refusal;
+use super::Sizes;
 ghost use mathlib.Core.Path.{_≡_};
 ghost use mathlib.Core.Bool.{_&&_};
 ghost use Prim.Native.Nat.{suc, _*_};
@@ -13,22 +16,22 @@ ghost use Rattle.answers.specs.Numbers.{verdictOf};
 ghost use Rattle.answers.specs.Lent.{lentOf, askedOf};
 
 // Numbers 1, 2 and 3.
-pub fn sizes(n: Dim, darts: u16, h: Level) -> Check
-    ensures { λ r. ⌜ verdictOf r ≡ sizesOf (n .0) darts (h .0) ⌝ }
+pub fn in_range(sizes: Sizes) -> Check
+    ensures { λ r. ⌜ verdictOf r ≡ sizesOf (sizes .n .0) (sizes .darts) (sizes .h .0) ⌝ }
 {
-    if n.0 < 1 {
+    if sizes.n.0 < 1 {
         return Check::Refused(Refusal::Dimension);
     }
-    if 4 < n.0 {
+    if MOST_DIMENSION < sizes.n.0 {
         return Check::Refused(Refusal::Dimension);
     }
-    if darts < 1 {
+    if sizes.darts < 1 {
         return Check::Refused(Refusal::Darts);
     }
-    if 4096 < darts {
+    if MOST_DARTS < sizes.darts {
         return Check::Refused(Refusal::Darts);
     }
-    if 32 < h.0 {
+    if MOST_HEIGHT < sizes.h.0 {
         return Check::Refused(Refusal::Height);
     }
     Check::Accepted
@@ -66,18 +69,18 @@ pub fn row_fits(darts: u16, length: usize) -> bool
 }
 
 // Have base rows, Λ and Δ of these lengths the exact ones?
-pub fn pyramid_fits(n: Dim, darts: u16, rows: usize, lambda: usize, delta: usize) -> bool
-    ensures { λ r. ⌜ r ≡ (eqb rows (suc (n .0) * darts) && (eqb lambda darts && eqb delta darts)) ⌝ }
+pub fn pyramid_fits(sizes: Sizes, rows: usize, lambda: usize, delta: usize) -> bool
+    ensures { λ r. ⌜ r ≡ (eqb rows (suc (sizes .n .0) * sizes .darts) && (eqb lambda (sizes .darts) && eqb delta (sizes .darts))) ⌝ }
 {
-    let marks = both(row_fits(darts, lambda), row_fits(darts, delta));
-    both(rows_fit(n, darts, rows), marks)
+    let marks = both(row_fits(sizes.darts, lambda), row_fits(sizes.darts, delta));
+    both(rows_fit(sizes.n, sizes.darts, rows), marks)
 }
 
 // Numbers 1 to 4: the sizes, and whether every slice lent has the exact length.
-pub fn lent(n: Dim, darts: u16, h: Level, fit: bool) -> Check
-    ensures { λ r. ⌜ verdictOf r ≡ lentOf (n .0) darts (h .0) fit ⌝ }
+pub fn lent(sizes: Sizes, fit: bool) -> Check
+    ensures { λ r. ⌜ verdictOf r ≡ lentOf (sizes .n .0) (sizes .darts) (sizes .h .0) fit ⌝ }
 {
-    if let Check::Refused(r) = sizes(n, darts, h) {
+    if let Check::Refused(r) = in_range(sizes) {
         return Check::Refused(r);
     }
     if !fit {
@@ -87,14 +90,14 @@ pub fn lent(n: Dim, darts: u16, h: Level, fit: bool) -> Check
 }
 
 // Numbers 1 to 4 and 11, which repeats what was asked.
-pub fn asked(n: Dim, darts: u16, h: Level, fit: bool, question: Question) -> Check
-    ensures { λ r. ⌜ verdictOf r ≡ askedOf (n .0) darts (h .0) fit (question .level .0) (question .involution .0) (question .dart) ⌝ }
+pub fn asked(sizes: Sizes, fit: bool, question: Question) -> Check
+    ensures { λ r. ⌜ verdictOf r ≡ askedOf (sizes .n .0) (sizes .darts) (sizes .h .0) fit (question .level .0) (question .involution .0) (question .dart) ⌝ }
 {
-    if let Check::Refused(r) = lent(n, darts, h, fit) {
+    if let Check::Refused(r) = lent(sizes, fit) {
         return Check::Refused(r);
     }
     let level = question.level;
-    if h.0 < level.0 {
+    if sizes.h.0 < level.0 {
         let involution = question.involution;
         return Check::Refused(Refusal::NoLevel(level, involution, question.dart));
     }

@@ -78,7 +78,7 @@ module _ (explicit : Bool) (n N : ℕ) (table : List ℕ) where
 
   -- 7 of one i
   abbrev pairs : ℕ → Verdict
-  pairs i = scan (suc n) (λ j. scan N (at7 (entry N table) n N (presentIf explicit N table) i j))
+  pairs i = scan (suc n) (λ j. scan N (at7 (entry N table) (presentIf explicit N table) i j))
 
   pairs-none : (i : ℕ) → ((j : ℕ) → j < suc n → (d : ℕ) → d < N → notCommutingIn explicit N table i j d ≡ false) → pairs i ≡ accepted
   unfolding at7
@@ -101,7 +101,7 @@ module _ (explicit : Bool) (n N : ℕ) (table : List ℕ) where
   pub inside : check5In explicit n N table ≡ accepted → (i d : ℕ) → i ≤ n → d < N → presentIf explicit N table d ≡ true → entry N table i d < N
   unfolding at5 check5
   inside e i d li ld p =
-      let v = at5 (entry N table) n N (presentIf explicit N table) in
+      let v = at5 (entry N table) N (presentIf explicit N table) in
       let s = when-accepted (straysIn explicit N table i d) 5 0 i d (scan-accepted N (v i) (scan-accepted (suc n) (λ i. scan N (v i)) e i (omega arith)) d ld) in
       let x = ltb (entry N table i d) N in
       let y = presentIf explicit N table (entry N table i d) in

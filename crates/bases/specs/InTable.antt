@@ -20,13 +20,13 @@ presentIf explicit N table d = cond explicit (present N table d) true
 
 -- the tests of 5, 6 and 7 at one place; none of them names n
 abbrev pub straysIn : Bool → ℕ → List ℕ → ℕ → ℕ → Bool
-straysIn explicit N table = strays (entry N table) 0 N (presentIf explicit N table)
+straysIn explicit N table = strays (entry N table) N (presentIf explicit N table)
 
 abbrev pub notTwiceIn : Bool → ℕ → List ℕ → ℕ → ℕ → Bool
-notTwiceIn explicit N table = notTwice (entry N table) 0 N (presentIf explicit N table)
+notTwiceIn explicit N table = notTwice (entry N table) (presentIf explicit N table)
 
 abbrev pub notCommutingIn : Bool → ℕ → List ℕ → ℕ → ℕ → ℕ → Bool
-notCommutingIn explicit N table = notCommuting (entry N table) 0 N (presentIf explicit N table)
+notCommutingIn explicit N table = notCommuting (entry N table) (presentIf explicit N table)
 
 module _ (explicit : Bool) (n N : ℕ) (table : List ℕ) where
   abbrev pub check5In : Verdict

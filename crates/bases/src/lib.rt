@@ -1,8 +1,10 @@
 // Check a base, or an explicit level: numbers 1, 2, 4, 5, 6 and 7, with the first place that is refused. Assumes nothing.
+use answers::ABSENT;
 use answers::Check;
 use answers::Dim;
 use answers::Level;
 use answers::Refusal;
+use answers::Sizes;
 ghost use mathlib.Core.Path.{_≡_};
 ghost use mathlib.Core.Bool.{true};
 ghost use Prim.Native.Nat.{ℕ, _+_, _<_, _≤_};
@@ -50,7 +52,7 @@ fn strays(explicit: bool, table: &[u16], darts: u16, i: Dim, d: u16) -> bool
         }
         return !there(explicit, table, darts, e);
     }
-    e != 65535
+    e != ABSENT
 }
 
 // Is number 6 due at row i of dart d? Where d is present, its entry there is a dart.
@@ -174,7 +176,12 @@ fn check_table(explicit: bool, table: &[u16], n: Dim, darts: u16) -> Check
     ensures { λ r. ⌜ verdictOf r ≡ checkIn explicit (n .0) darts (now (table .entry)) ⌝ }
 {
     let fit = answers::rows_fit(n, darts, table.len());
-    if let Check::Refused(r) = answers::lent(n, darts, Level(0), fit) {
+    let sizes = Sizes {
+        n,
+        h: Level(0),
+        darts,
+    };
+    if let Check::Refused(r) = answers::lent(sizes, fit) {
         return Check::Refused(r);
     }
     map_refused(explicit, table, n, darts)

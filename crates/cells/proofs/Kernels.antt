@@ -14,13 +14,14 @@ use Rattle.maps.specs.Kernel.{Kernel}
 use Rattle.maps.specs.Table.{entry, each}
 use Rattle.maps.specs.Check.{checkKernel}
 use Rattle.maps.specs.CheckBase.{present}
-use Rattle.maps.specs.Folded.{levelTable}
+use Rattle.maps.specs.Folded.{levelTable, ofParts}
 use Rattle.maps.specs.CheckPyramid.{checkLent, checkLeaves}
 use Rattle.maps.specs.AddLevel.{addLent}
 use Rattle.maps.specs.MarkCells.{Marked, CellsMarked, markLent, MarkLeaves}
 use Rattle.laws.proofs.Marks.{is-removal, stay-none, removed-rows}
 use Rattle.facts.proofs.Commuting.{commutes-kernel}
-use Rattle.facts.proofs.Checks.{There, sound-kernel}
+use Rattle.maps.specs.Explicit.{There}
+use Rattle.facts.proofs.Checks.{sound-kernel}
 use Rattle.facts.proofs.AcceptedJobs.{accepted-table}
 use Rattle.facts.proofs.ExactJobs.{top-row-added}
 use Rattle.orbits.specs.Explicit.{ExplicitLevel}
@@ -42,15 +43,15 @@ module _ (n N : ℕ) (table : List ℕ) (δ : ℕ) (out : List ℕ) (marked : Ce
     removes : (d : ℕ) → each out d ≡ δ → contracts (each out d) ≡ false
     removes d e = le-ltb 8 (each out d) (omega (arith, level .rows .dimension))
 
-    pub marked-kernel : Kernel (entry N table) n (There (entry N table) n N (present N table)) (each out)
+    pub marked-kernel : Kernel (entry N table) n (There N (present N table)) (each out)
     marked-kernel =
         let v = level-valid n N table level in
-        commutes-kernel (entry N table) n (There (entry N table) n N (present N table)) (each out) (v .inside)
+        commutes-kernel (entry N table) n (There N (present N table)) (each out) (v .inside)
         (λ d j p q lj ne.
         let w = marked-only d (p .0) q in
         let there = v .inside j d lj p in
         let next : Cell (entry N table) n δ d (entry N table j d) = onward d j itself lj (λ e. ne (e ∙ sym (ap (λ (x : ℕ × ℕ). x .0) (removed-rows n (each out d) (removes d (w .2)) .0) ∙ w .2))) in
-        marked-all (entry N table j d) (there .0) (there .1) (marked-along (entry N table) n δ (There (entry N table) n N (present N table)) v below d (entry N table j d) p next (w .1)) ∙ sym (w .2))
+        marked-all (entry N table j d) (there .0) (there .1) (marked-along (entry N table) n δ (There N (present N table)) v below d (entry N table j d) p next (w .1)) ∙ sym (w .2))
         (λ d p q h.
         let w = marked-only d (p .0) q in
         let r = removed-rows n (each out d) (removes d (w .2)) in
@@ -61,11 +62,11 @@ module _ (n N : ℕ) (table : List ℕ) (δ : ℕ) (out : List ℕ) (marked : Ce
     pub marked-accepted : (l : ℕ) → checkKernel (entry N table) n N (each out) l ≡ accepted
     marked-accepted l =
         let v = level-valid n N table level in
-        sound-kernel (entry N table) n N (each out) l (There (entry N table) n N (present N table)) v (λ d p. p .0) (λ d ld q. (ld, marked-only d ld q .0)) marked-kernel
+        sound-kernel (entry N table) n N (each out) l (There N (present N table)) v (λ d p. p .0) (λ d ld q. (ld, marked-only d ld q .0)) marked-kernel
 
 -- what the job leaves where it accepts is a kernel, and is accepted as one
 pub job-kernel : (n N : ℕ) (table : List ℕ) (δ : ℕ) (found out : List ℕ) → markLent n N table δ found ≡ accepted → MarkLeaves n N table δ found (markLent n N table δ found) out
-    → Kernel (entry N table) n (There (entry N table) n N (present N table)) (each out) × ((l : ℕ) → checkKernel (entry N table) n N (each out) l ≡ accepted)
+    → Kernel (entry N table) n (There N (present N table)) (each out) × ((l : ℕ) → checkKernel (entry N table) n N (each out) l ≡ accepted)
 job-kernel n N table δ found out e left =
     let marked : CellsMarked n N table δ out = rw e at left in
     let level = accepted-level n N table δ found e .0 in
@@ -73,16 +74,16 @@ job-kernel n N table δ found out e left =
     (marked-kernel n N table δ out marked level below, marked-accepted n N table δ out marked level below)
 
 -- what marking marks on the table that check left, add accepts, with any lent table of the exact length
-pub marked-added : (n N h : ℕ) (rows lambda delta table : List ℕ) → checkLent n N h rows lambda delta table ≡ accepted → h < 32 → (δ : ℕ) (found out table′ : List ℕ)
-    → markLent n N (checkLeaves n N h rows lambda delta table) δ found ≡ accepted → MarkLeaves n N (checkLeaves n N h rows lambda delta table) δ found (markLent n N (checkLeaves n N h rows lambda delta table) δ found) out
-    → length table′ ≡ suc n * N → addLent n N h rows lambda delta out table′ ≡ accepted
+pub marked-added : (n N h : ℕ) (rows lambda delta table : List ℕ) → checkLent (ofParts n N h rows lambda delta) table ≡ accepted → h < 32 → (δ : ℕ) (found out table′ : List ℕ)
+    → markLent n N (checkLeaves (ofParts n N h rows lambda delta) table) δ found ≡ accepted → MarkLeaves n N (checkLeaves (ofParts n N h rows lambda delta) table) δ found (markLent n N (checkLeaves (ofParts n N h rows lambda delta) table) δ found) out
+    → length table′ ≡ suc n * N → addLent (ofParts n N h rows lambda delta) out table′ ≡ accepted
 marked-added n N h rows lambda delta table c room δ found out table′ e left as-long =
     let T = levelTable (entry N rows) n N h (each lambda) (each delta) h in
-    let t = accepted-table n N h rows lambda delta table c in
+    let t = accepted-table (ofParts n N h rows lambda delta) table c in
     let e′ : markLent n N T δ found ≡ accepted = rw t at e in
     let marked : CellsMarked n N T δ out = rw (t, e′) at left in
     let level = accepted-level n N T δ found e′ .0 in
     let below = accepted-level n N T δ found e′ .1 in
-    top-row-added n N h rows lambda delta table c out table′ as-long room (marked .long) (λ d ld q. marked-only n N T δ out marked level below d ld q .0)
+    top-row-added (ofParts n N h rows lambda delta) table c out table′ as-long room (marked .long) (λ d ld q. marked-only n N T δ out marked level below d ld q .0)
     (λ d ld q. elim (marked .mark d ld) [ inl w ↦ absurd (true≢false (sym (ap (isMark n) (w .2) ∙ is-removal n δ below) ∙ q)) | inr w ↦ w .1 ])
     (marked-accepted n N T δ out marked level below h)

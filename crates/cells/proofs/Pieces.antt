@@ -16,7 +16,7 @@ use Rattle.maps.specs.Parts.{Piece}
 use Rattle.maps.specs.Mark.{isMark, stay}
 use Rattle.maps.specs.Table.{entry, each}
 use Rattle.maps.specs.CheckBase.{present}
-use Rattle.maps.specs.Folded.{On, survives, marks, addΛ, level, levelTable}
+use Rattle.maps.specs.Folded.{On, survives, marks, addΛ, level, levelTable, ofParts}
 use Rattle.maps.specs.CheckPyramid.{checkLent, checkLeaves}
 use Rattle.maps.specs.AddLevel.{addLambda}
 use Rattle.maps.specs.MarkCells.{CellsMarked, markLent, MarkLeaves}
@@ -82,7 +82,7 @@ stays-on n h Λ mark d q l = go (eqb (Λ d) h) refl
     go false e = let ne : Λ d ≡ h → ⊥ = eqb-false (Λ d) h e in rw (q, e) (omega arith)
 
 -- the same of a level of an accepted pyramid, after what marking marked on the table that check left has been added
-module _ (n N h : ℕ) (rows lambda delta table : List ℕ) (c : checkLent n N h rows lambda delta table ≡ accepted) where
+module _ (n N h : ℕ) (rows lambda delta table : List ℕ) (c : checkLent (ofParts n N h rows lambda delta) table ≡ accepted) where
   abbrev A : Involutions
   A = level (entry N rows) n N (marks h (each lambda) (each delta)) h
 
@@ -90,7 +90,7 @@ module _ (n N h : ℕ) (rows lambda delta table : List ℕ) (c : checkLent n N h
   T = levelTable (entry N rows) n N h (each lambda) (each delta) h
 
   valid : Valid A n (On N (each lambda) h)
-  valid = level-on (entry N rows) n N h (each lambda) (each delta) (accepted-pyramid n N h rows lambda delta table c) h (omega arith)
+  valid = level-on (entry N rows) n N h (each lambda) (each delta) (accepted-pyramid (ofParts n N h rows lambda delta) table c) h (omega arith)
 
   -- the table holds the neighbours of the darts of the level
   stored : (j d : ℕ) → j ≤ n → On N (each lambda) h d → entry N T j d ≡ A j d
@@ -105,11 +105,11 @@ module _ (n N h : ℕ) (rows lambda delta table : List ℕ) (c : checkLent n N h
       rw e (further d j (r .0) lj refl, valid .inside j d lj (r .1))
 
   pub piece-survives : (δ : ℕ) (found out table′ : List ℕ) → h < 32
-      → markLent n N (checkLeaves n N h rows lambda delta table) δ found ≡ accepted → MarkLeaves n N (checkLeaves n N h rows lambda delta table) δ found (markLent n N (checkLeaves n N h rows lambda delta table) δ found) out
-      → length table′ ≡ suc n * N → (x : ℕ) → On N (each lambda) h x → (y : ℕ) × Piece A n x y × On N (each (addLambda n N h rows lambda delta out table′)) (suc h) y
+      → markLent n N (checkLeaves (ofParts n N h rows lambda delta) table) δ found ≡ accepted → MarkLeaves n N (checkLeaves (ofParts n N h rows lambda delta) table) δ found (markLent n N (checkLeaves (ofParts n N h rows lambda delta) table) δ found) out
+      → length table′ ≡ suc n * N → (x : ℕ) → On N (each lambda) h x → (y : ℕ) × Piece A n x y × On N (each (addLambda (ofParts n N h rows lambda delta) out table′)) (suc h) y
   unfolding addLambda
   piece-survives δ found out table′ room e left as-long x o =
-      let t = accepted-table n N h rows lambda delta table c in
+      let t = accepted-table (ofParts n N h rows lambda delta) table c in
       let e′ : markLent n N T δ found ≡ accepted = rw t at e in
       let marked : CellsMarked n N T δ out = rw (t, e′) at left in
       let held = accepted-level n N T δ found e′ .0 in

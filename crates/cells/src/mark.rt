@@ -3,7 +3,10 @@ use answers::Check;
 use answers::Dim;
 use answers::Level;
 use answers::Mark;
+use answers::ROOM;
 use answers::Refusal;
+use answers::STAY;
+use answers::Sizes;
 ghost use mathlib.Core.Path.{_≡_};
 ghost use mathlib.Core.Bool.{true, false, _&&_};
 ghost use Prim.Native.Nat.{ℕ, _+_, _*_, _≤_, _<_};
@@ -44,14 +47,14 @@ fn spoil(
     darts: u16,
     table: &[u16],
     dimension: Dim,
-    reached: &mut [bool; 4096],
-    queue: &mut [u16; 4096],
+    reached: &mut [bool; ROOM],
+    queue: &mut [u16; ROOM],
 )
     requires { ⌜ ExplicitLevel (n .0) darts (now table) × (dimension .0 < n .0) × ((d : ℕ) → has (now reached) d ≡ false) × Room (now reached) (now queue) ⌝ }
     ensures { λ _. ⌜ Without (n .0) darts (now (table .entry)) (dimension .0) (Removable (entry darts (now (table .entry))) (n .0) (dimension .0)) (now (reached .exit)) (now (queue .exit)) ⌝ }
 {
     let choice = orbits::all_but(dimension);
-    let choices = [choice; 4096];
+    let choices = [choice; ROOM];
     for d in 0..darts {
         let place = d as usize;
         if !reached[place] {
@@ -67,8 +70,8 @@ fn undecided(
     darts: u16,
     table: &[u16],
     dimension: Dim,
-    reached: &[bool; 4096],
-    parts: &[bool; 4096],
+    reached: &[bool; ROOM],
+    parts: &[bool; ROOM],
     d: u16,
 ) -> bool
     requires { ⌜ ((n : ℕ) × ExplicitLevel n darts (now table) × (dimension .0 < n) × (d < darts)) ⌝ }
@@ -91,17 +94,17 @@ fn divide(
     darts: u16,
     table: &[u16],
     dimension: Dim,
-    reached: &mut [bool; 4096],
-    queue: &mut [u16; 4096],
+    reached: &mut [bool; ROOM],
+    queue: &mut [u16; ROOM],
 )
     requires { ⌜ ExplicitLevel (n .0) darts (now table) × (dimension .0 < n .0) × Without (n .0) darts (now table) (dimension .0) (Removable (entry darts (now table)) (n .0) (dimension .0)) (now reached) (now queue) ⌝ }
     ensures { λ _. ⌜ Without (n .0) darts (now (table .entry)) (dimension .0) (WouldBeMarked (entry darts (now (table .entry))) (n .0) (dimension .0)) (now (reached .exit)) (now (queue .exit)) ⌝ }
 {
     let part = orbits::all_but_two(dimension);
-    let part_choices = [part; 4096];
+    let part_choices = [part; ROOM];
     let cell = orbits::all_but(dimension);
-    let cell_choices = [cell; 4096];
-    let mut parts = [false; 4096];
+    let cell_choices = [cell; ROOM];
+    let mut parts = [false; ROOM];
     for d in 0..darts {
         if undecided(darts, table, dimension, reached, &parts, d) {
             orbits::orbit(n, darts, table, &part_choices, d, &mut parts, queue);
@@ -117,7 +120,7 @@ fn divide(
 fn every_row() -> u8
     ensures { λ r. ⌜ ((j : ℕ) → j < 5 → uses r j ≡ true) ⌝ }
 {
-    31
+    orbits::ALL_ROWS
 }
 
 // The connected pieces of the darts in the set, each searched once.
@@ -125,16 +128,16 @@ fn break_pieces(
     n: Dim,
     darts: u16,
     table: &[u16],
-    reached: &[bool; 4096],
-    pieces: &mut [bool; 4096],
-    queue: &mut [u16; 4096],
+    reached: &[bool; ROOM],
+    pieces: &mut [bool; ROOM],
+    queue: &mut [u16; ROOM],
 )
     requires { ⌜ ExplicitLevel (n .0) darts (now table) × ((d : ℕ) → has (now pieces) d ≡ false) × Room (now pieces) (now queue) ⌝ }
     ensures gathered { λ _. ⌜ Gathered (n .0) darts (now (table .entry)) (λ j. true) (λ d. present darts (now (table .entry)) d && has (now (reached .entry)) d) (has (now (pieces .exit))) darts ⌝ }
     ensures room { λ _. ⌜ Room (now (pieces .exit)) (now (queue .exit)) ⌝ }
 {
     let choice = every_row();
-    let choices = [choice; 4096];
+    let choices = [choice; ROOM];
     for d in 0..darts {
         let place = d as usize;
         if answers::there(darts, table, d) & reached[place] & !pieces[place] {
@@ -149,18 +152,18 @@ fn spare(
     darts: u16,
     table: &[u16],
     dimension: Dim,
-    reached: &mut [bool; 4096],
-    queue: &mut [u16; 4096],
+    reached: &mut [bool; ROOM],
+    queue: &mut [u16; ROOM],
 )
     requires { ⌜ ExplicitLevel (n .0) darts (now table) × (dimension .0 < n .0) × Without (n .0) darts (now table) (dimension .0) (WouldBeMarked (entry darts (now table)) (n .0) (dimension .0)) (now reached) (now queue) ⌝ }
     ensures { λ _. ⌜ Without (n .0) darts (now (table .entry)) (dimension .0) (Marked (entry darts (now (table .entry))) (n .0) (dimension .0)) (now (reached .exit)) (now (queue .exit)) ⌝ }
 {
-    let mut pieces = [false; 4096];
+    let mut pieces = [false; ROOM];
     break_pieces(n, darts, table, reached, &mut pieces, queue);
     let left = orbits::all_but(dimension);
-    let left_choices = [left; 4096];
+    let left_choices = [left; ROOM];
     let piece = every_row();
-    let piece_choices = [piece; 4096];
+    let piece_choices = [piece; ROOM];
     for d in 0..darts {
         let place = d as usize;
         if answers::there(darts, table, d) & !pieces[place] {
@@ -177,13 +180,13 @@ fn mark_at(darts: u16, table: &[u16], dimension: Dim, reached: bool, d: u16) -> 
 {
     let present = answers::there(darts, table, d);
     if !present | reached {
-        return Mark(255);
+        return Mark(STAY);
     }
     Mark(dimension.0)
 }
 
 // The mark row, dart by dart.
-fn fill(darts: u16, table: &[u16], dimension: Dim, reached: &[bool; 4096], out: &mut [u8])
+fn fill(darts: u16, table: &[u16], dimension: Dim, reached: &[bool; ROOM], out: &mut [u8])
     requires { ⌜ (darts ≤ 4096) × ((d : ℕ) → d < darts → (0 * darts + d < length (now table)) × (length (now table) ≤ 20480)) × (length (now out) ≡ darts) ⌝ }
     ensures { λ _. ⌜ now (out .exit) ≡ listed (marksOf darts (now (table .entry)) (dimension .0) (has (now (reached .entry)))) darts ⌝ }
 {
@@ -199,8 +202,8 @@ fn mark_accepted(n: Dim, darts: u16, table: &[u16], dimension: Dim, out: &mut [u
     requires { ⌜ ExplicitLevel (n .0) darts (now table) × (dimension .0 < n .0) × (length (now out) ≡ darts) ⌝ }
     ensures { λ _. ⌜ CellsMarked (n .0) darts (now (table .entry)) (dimension .0) (now (out .exit)) ⌝ }
 {
-    let mut reached = [false; 4096];
-    let mut queue = [0u16; 4096];
+    let mut reached = [false; ROOM];
+    let mut queue = [0u16; ROOM];
     spoil(n, darts, table, dimension, &mut reached, &mut queue);
     divide(n, darts, table, dimension, &mut reached, &mut queue);
     spare(n, darts, table, dimension, &mut reached, &mut queue);
@@ -216,7 +219,12 @@ pub fn mark_cells(n: Dim, darts: u16, table: &[u16], dimension: Dim, out: &mut [
         answers::rows_fit(n, darts, table.len()),
         answers::row_fits(darts, out.len()),
     );
-    if let Check::Refused(r) = answers::lent(n, darts, Level(0), fit) {
+    let sizes = Sizes {
+        n,
+        h: Level(0),
+        darts,
+    };
+    if let Check::Refused(r) = answers::lent(sizes, fit) {
         return Check::Refused(r);
     }
     if n.0 <= dimension.0 {

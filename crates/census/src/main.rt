@@ -2,7 +2,11 @@
 // It keeps 156,110 bytes: the input (65,536), rows and a table (40,960 each), Λ and Δ (4,096 each), counts (330) and sums (132). Assumes the contracts of read and write.
 use answers::Check;
 use answers::Dim;
+use answers::LEVELS;
 use answers::Level;
+use answers::MOST_ENTRIES;
+use answers::MOST_ROWS;
+use answers::ROOM;
 use records::Taken;
 ghost use mathlib.Core.Path.{_≡_};
 ghost use Prim.Native.Nat.{_≤_};
@@ -29,7 +33,7 @@ fn next_signed(number: i32) {
 }
 
 // Number, the n+1 counts, sum.
-fn level_line(n: Dim, level: Level, counts: [u16; 5], sum: i32)
+fn level_line(n: Dim, level: Level, counts: [u16; MOST_ROWS], sum: i32)
     requires { ⌜ n .0 ≤ 4 ⌝ }
 {
     io::print_decimal(1, level.0 as u64);
@@ -41,7 +45,7 @@ fn level_line(n: Dim, level: Level, counts: [u16; 5], sum: i32)
     io::write_all(1, b"\n");
 }
 
-fn all_levels(n: Dim, h: Level, cells: [[u16; 5]; 33], sums: [i32; 33])
+fn all_levels(n: Dim, h: Level, cells: [[u16; MOST_ROWS]; LEVELS], sums: [i32; LEVELS])
     requires { ⌜ (n .0 ≤ 4) × (h .0 ≤ 32) ⌝ }
 {
     let top = h.0;
@@ -61,8 +65,8 @@ fn print_census(
     delta: &[u8],
     table: &mut [u16],
 ) {
-    let mut cells = [[0u16; 5]; 33];
-    let mut sums = [0i32; 33];
+    let mut cells = [[0u16; MOST_ROWS]; LEVELS];
+    let mut sums = [0i32; LEVELS];
     match counting::census(
         n,
         darts,
@@ -82,10 +86,10 @@ fn print_census(
 // A pyramid that is taken stands at the front of the arrays, since its sizes are in range.
 fn main() {
     let mut input = io::large_buffer();
-    let mut rows = [0u16; 20480];
-    let mut lambda = [0u8; 4096];
-    let mut delta = [0u8; 4096];
-    let mut table = [0u16; 20480];
+    let mut rows = [0u16; MOST_ENTRIES];
+    let mut lambda = [0u8; ROOM];
+    let mut delta = [0u8; ROOM];
+    let mut table = [0u16; MOST_ENTRIES];
     let length = io::read_full(0, &mut input);
     match taking::take(
         &input[..length],

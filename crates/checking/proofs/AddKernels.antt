@@ -12,7 +12,7 @@ use Rattle.maps.specs.Map.{Involutions}
 use Rattle.maps.specs.Mark.{isMark}
 use Rattle.maps.specs.Removal.{removal}
 use Rattle.maps.specs.Table.{entry, each, listed}
-use Rattle.maps.specs.Folded.{survives, marks, addΛ, addΔ, level, levelTable}
+use Rattle.maps.specs.Folded.{survives, marks, addΛ, addΔ, level, levelTable, ofParts}
 use Rattle.maps.specs.MarkRow.{Row}
 use Rattle.maps.specs.Check.{checkKernel, kernelAt, checkKernels}
 use Rattle.maps.specs.CheckPyramid.{leftBehind}
@@ -30,7 +30,7 @@ then-same accepted w u h = h refl
 then-same (refused k l i d) w u h = refl
 
 -- kernels below h and the mark row are refused with 9 or 10, and a level up to h
-pub ascends-late : (n N h : ℕ) (rows lambda delta row : List ℕ) → Says (Late (λ x. x ≤ h)) (ascends n N h rows lambda delta row)
+pub ascends-late : (n N h : ℕ) (rows lambda delta row : List ℕ) → Says (Late (λ x. x ≤ h)) (ascends (ofParts n N h rows lambda delta) row)
 ascends-late n N h rows lambda delta row =
     let low = climbs n N h rows lambda delta in
     let last = checkKernel (level (entry N rows) n N (marks h (each lambda) (each delta)) h) n N (each row) h in
@@ -145,24 +145,24 @@ module _ {n N h : ℕ} {rows lambda delta new-lambda new-delta : List ℕ} (row 
         sym (ap (λ (A : Involutions). checkKernel A n N (marks (suc h) Λ′ Δ′ h) h) (level-kept h (omega arith))) ∙ sym (check (marks (suc h) Λ′ Δ′ h) new) ∙ check (each row) (λ d ld. refl)
 
     -- and so is the mark row
-    top-is : checkKernel (level a n N (marks h Λ Δ) h) n N (each row) h ≡ accepted → levelTable a n N (suc h) Λ′ Δ′ (suc h) ≡ newTop n N h rows lambda delta row
+    top-is : checkKernel (level a n N (marks h Λ Δ) h) n N (each row) h ≡ accepted → levelTable a n N (suc h) Λ′ Δ′ (suc h) ≡ newTop (ofParts n N h rows lambda delta) row
     top-is accept =
         let c = added-base in
         let next = next-table a n N (suc h) Λ′ Δ′ (c .dimension) (c .darts) (c .valid) (c .allowed) h (omega arith) (scan-kept ∙ checked) (omega arith) (each row) new (last-is ∙ accept) in
         let top = top-table a n N h Λ Δ (b .dimension) (b .darts) (b .valid) (b .allowed) checked (each row) k accept (each row) (λ d ld. refl) in
         sym (rw (table-kept h (omega arith)) at next) ∙ top
 
-  climbs-is : climbs n N (suc h) rows new-lambda new-delta ≡ ascends n N h rows lambda delta row
+  climbs-is : climbs n N (suc h) rows new-lambda new-delta ≡ ascends (ofParts n N h rows lambda delta) row
   unfolding checkKernels scan
   climbs-is = rw scan-kept (then-same (climbs n N h rows lambda delta) (kernelAt a n N (suc h) Λ′ Δ′ h) (checkKernel (level a n N (marks h Λ Δ) h) n N (each row) h) last-is)
 
-  leaves-is : climbLeaves n N (suc h) rows new-lambda new-delta ≡ ascendLeaves n N h rows lambda delta row
+  leaves-is : climbLeaves n N (suc h) rows new-lambda new-delta ≡ ascendLeaves (ofParts n N h rows lambda delta) row
   leaves-is =
       let low = climbs n N h rows lambda delta in
       let last = checkKernel (level a n N (marks h Λ Δ) h) n N (each row) h in
       let top = levelTable a n N (suc h) Λ′ Δ′ (suc h) in
       ap (leftBehind top (levelTable a n N (suc h) Λ′ Δ′) rows) climbs-is
-      ∙ left-same h top (newTop n N h rows lambda delta row) (levelTable a n N (suc h) Λ′ Δ′) (levelTable a n N h Λ Δ) rows (ascends n N h rows lambda delta row) (ascends-late n N h rows lambda delta row)
+      ∙ left-same h top (newTop (ofParts n N h rows lambda delta) row) (levelTable a n N (suc h) Λ′ Δ′) (levelTable a n N h Λ Δ) rows (ascends (ofParts n N h rows lambda delta) row) (ascends-late n N h rows lambda delta row)
       (λ e. let s = then-accepted low last e in top-is (s .0) (s .1)) table-kept
 
   -- as the code has it, with the new height
@@ -170,5 +170,5 @@ module _ {n N h : ℕ} {rows lambda delta new-lambda new-delta : List ℕ} (row 
     pub ascend-base : Base n N new-h rows new-lambda new-delta
     ascend-base = rw grown added-base
 
-    pub ascend-risen : {v : Verdict} {after : List ℕ} → v ≡ climbs n N new-h rows new-lambda new-delta → after ≡ climbLeaves n N new-h rows new-lambda new-delta → (v ≡ ascends n N h rows lambda delta row) × (after ≡ ascendLeaves n N h rows lambda delta row)
+    pub ascend-risen : {v : Verdict} {after : List ℕ} → v ≡ climbs n N new-h rows new-lambda new-delta → after ≡ climbLeaves n N new-h rows new-lambda new-delta → (v ≡ ascends (ofParts n N h rows lambda delta) row) × (after ≡ ascendLeaves (ofParts n N h rows lambda delta) row)
     ascend-risen e f = ((rw grown at e) ∙ climbs-is, (rw grown at f) ∙ leaves-is)

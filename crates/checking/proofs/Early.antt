@@ -36,16 +36,16 @@ pub map-early : (a : Involutions) (n N : ℕ) (present : ℕ → Bool) → Says 
 unfolding at5 at6 at7 check5 check6 check7 checkMap
 map-early a n N present =
     says-then (check5 a n N present) (check6 a n N present then check7 a n N present)
-    (says-scan (suc n) (λ i. scan N (at5 a n N present i)) (λ i li. says-scan N (at5 a n N present i) (λ d ld. says-when (strays a n N present i d) 5 0 i d refl)))
+    (says-scan (suc n) (λ i. scan N (at5 a N present i)) (λ i li. says-scan N (at5 a N present i) (λ d ld. says-when (strays a N present i d) 5 0 i d refl)))
     (says-then (check6 a n N present) (check7 a n N present)
-    (says-scan (suc n) (λ i. scan N (at6 a n N present i)) (λ i li. says-scan N (at6 a n N present i) (λ d ld. says-when (notTwice a n N present i d) 6 0 i d refl)))
-    (says-scan (suc n) (λ i. scan (suc n) (λ j. scan N (at7 a n N present i j))) (λ i li.
-    says-scan (suc n) (λ j. scan N (at7 a n N present i j)) (λ j lj. says-scan N (at7 a n N present i j) (λ d ld. says-when (notCommuting a n N present i j d) 7 0 i d refl)))))
+    (says-scan (suc n) (λ i. scan N (at6 a present i)) (λ i li. says-scan N (at6 a present i) (λ d ld. says-when (notTwice a present i d) 6 0 i d refl)))
+    (says-scan (suc n) (λ i. scan (suc n) (λ j. scan N (at7 a present i j))) (λ i li.
+    says-scan (suc n) (λ j. scan N (at7 a present i j)) (λ j lj. says-scan N (at7 a present i j) (λ d ld. says-when (notCommuting a present i j d) 7 0 i d refl)))))
 
 -- marks with 8
-pub marks-early : (a : Involutions) (n N h : ℕ) (Λ Δ : ℕ → ℕ) → Says Early (check8 a n N h Λ Δ)
+pub marks-early : (a : Involutions) (n N h : ℕ) (Λ Δ : ℕ → ℕ) → Says Early (check8 n N h Λ Δ)
 unfolding at8 check8
-marks-early a n N h Λ Δ = says-scan N (at8 a n N h Λ Δ) (λ d ld. says-when (refusedMarks n h (Λ d) (Δ d)) 8 0 0 d refl)
+marks-early a n N h Λ Δ = says-scan N (at8 n h Λ Δ) (λ d ld. says-when (refusedMarks n h (Λ d) (Δ d)) 8 0 0 d refl)
 
 -- A job that tests sizes, then base and marks, both with other numbers than 9 and 10, then kernels, with no other. What it leaves in the table is what was found, unless the kernels were reached.
 module _ (top : List ℕ) (levels : ℕ → List ℕ) (found : List ℕ) {At : ℕ → Type 0} (job sized marked kernels : Verdict) (parts : job ≡ (sized then (marked then kernels)))

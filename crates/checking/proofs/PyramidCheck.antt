@@ -9,7 +9,7 @@ use borrow.Author.Tests.{eq-eqb, eqb-true}
 use Rattle.maps.specs.Verdict.{Verdict, accepted, _then_}
 use Rattle.maps.specs.Sizes.{number1, number2, number3, sizes, number4, hasLength}
 use Rattle.maps.specs.Table.{entry, each}
-use Rattle.maps.specs.Folded.{refusedMarks}
+use Rattle.maps.specs.Folded.{refusedMarks, ofParts, Folded}
 use Rattle.maps.specs.Check.{checkMap, at8, check8, checkPyramid}
 use Rattle.maps.specs.CheckBase.{checkBase}
 use Rattle.maps.specs.CheckPyramid.{checkLent, tableAt, checkLeaves}
@@ -24,25 +24,30 @@ use Rattle.checking.specs.Checked.{lentSizes, baseSizes, baseAndMarks}
 use Rattle.climbing.proofs.Verdicts.{Says, says-then, kernels-late}
 use Rattle.checking.proofs.Early.{Early, lengths-early, map-early, marks-early, at-sizes, at-marks, at-kernels}
 
--- what 1 to 4 tell when they are not refused
-pub record Lent (n N h : ℕ) (rows lambda delta table : List ℕ) : Type 0 where
-  pub dimension : n ≤ 4
-  pub darts : N ≤ 4096
-  pub height : h ≤ 32
-  pub base : baseSizes n N rows ≡ accepted
-  pub rows-long : length rows ≡ suc n * N
-  pub lambda-long : length lambda ≡ N
-  pub delta-long : length delta ≡ N
-  pub table-long : length table ≡ length rows
+module _ (P : Folded) where
+  open Folded P using (n, N, h, rows, lambda, delta)
+
+  -- what 1 to 4 tell when they are not refused
+  pub record Lent (table : List ℕ) : Type 0 where
+    pub dimension : n ≤ 4
+    pub darts : N ≤ 4096
+    pub height : h ≤ 32
+    pub base : baseSizes n N rows ≡ accepted
+    pub rows-long : length rows ≡ suc n * N
+    pub lambda-long : length lambda ≡ N
+    pub delta-long : length delta ≡ N
+    pub table-long : length table ≡ length rows
 
 -- once 1, 2 and 4 have passed, the check of the base is that of its map
 pub base-map : (n N : ℕ) (rows : List ℕ) → baseSizes n N rows ≡ accepted → checkBase n N rows ≡ checkMap (entry N rows) n N (λ d. true)
 unfolding checkBase
 base-map n N rows e = then-two (sizes n N 0) (number4 (hasLength rows (suc n * N))) (checkMap (entry N rows) n N (λ d. true)) ∙ rw e
 
-module _ (n N h : ℕ) (rows lambda delta table : List ℕ) where
+module _ (P : Folded) (table : List ℕ) where
+  open Folded P using (n, N, h, rows, lambda, delta)
+
   -- of the base rows, Λ and Δ, with what else has to be exact
-  pub lent-facts : (others : Bool) → lentOf n N h (hasLength rows (suc n * N) && (hasLength lambda N && (hasLength delta N && others))) ≡ accepted → (others ≡ true → length table ≡ suc n * N) → Lent n N h rows lambda delta table × (others ≡ true)
+  pub lent-facts : (others : Bool) → lentOf n N h (hasLength rows (suc n * N) && (hasLength lambda N && (hasLength delta N && others))) ≡ accepted → (others ≡ true → length table ≡ suc n * N) → Lent P table × (others ≡ true)
   unfolding sizes number3 number4
   lent-facts others e rest =
       let more = hasLength lambda N && (hasLength delta N && others) in
@@ -64,18 +69,18 @@ module _ (n N h : ℕ) (rows lambda delta table : List ℕ) where
         w .1,
       )
 
-  pub check-facts : lentSizes n N h rows lambda delta table ≡ accepted → Lent n N h rows lambda delta table
+  pub check-facts : lentSizes P table ≡ accepted → Lent P table
   check-facts e = lent-facts (hasLength table (suc n * N)) e (eqb-true (length table) (suc n * N)) .0
 
   -- base and marks are refused with 5 to 8
-  pub marks-early-all : Says Early (baseAndMarks n N h rows lambda delta)
-  marks-early-all = says-then (checkMap (entry N rows) n N (λ d. true)) (check8 (entry N rows) n N h (each lambda) (each delta)) (map-early (entry N rows) n N (λ d. true)) (marks-early (entry N rows) n N h (each lambda) (each delta))
+  pub marks-early-all : Says Early (baseAndMarks P)
+  marks-early-all = says-then (checkMap (entry N rows) n N (λ d. true)) (check8 n N h (each lambda) (each delta)) (map-early (entry N rows) n N (λ d. true)) (marks-early (entry N rows) n N h (each lambda) (each delta))
 
   -- the base is valid and the marks are allowed
-  pub based : Lent n N h rows lambda delta table → baseAndMarks n N h rows lambda delta ≡ accepted → Base n N h rows lambda delta
+  pub based : Lent P table → baseAndMarks P ≡ accepted → Base n N h rows lambda delta
   unfolding at8 check8
   based p e =
-      let s = then-accepted (checkMap (entry N rows) n N (λ d. true)) (check8 (entry N rows) n N h (each lambda) (each delta)) e in
+      let s = then-accepted (checkMap (entry N rows) n N (λ d. true)) (check8 n N h (each lambda) (each delta)) e in
       let ln = p .dimension in
       record {
         dimension = p .dimension;
@@ -85,24 +90,24 @@ module _ (n N h : ℕ) (rows lambda delta table : List ℕ) where
         lambda-long = p .lambda-long;
         delta-long = p .delta-long;
         valid = valid-base (entry N rows) n N h (each lambda) (each delta) (omega arith) (map-sound (entry N rows) n N (λ d. true) (s .0));
-        allowed = λ d ld. when-accepted (refusedMarks n h (each lambda d) (each delta d)) 8 0 0 d (scan-accepted N (at8 (entry N rows) n N h (each lambda) (each delta)) (s .1) d ld);
+        allowed = λ d ld. when-accepted (refusedMarks n h (each lambda d) (each delta d)) 8 0 0 d (scan-accepted N (at8 n h (each lambda) (each delta)) (s .1) d ld);
       }
 
   abbrev S : Verdict
-  S = lentSizes n N h rows lambda delta table
+  S = lentSizes P table
 
   abbrev M : Verdict
-  M = baseAndMarks n N h rows lambda delta
+  M = baseAndMarks P
 
   abbrev K : Verdict
   K = climbs n N h rows lambda delta
 
-  parts : checkLent n N h rows lambda delta table ≡ (S then (M then K))
+  parts : checkLent P table ≡ (S then (M then K))
   unfolding checkLent checkPyramid
   parts = simp then-two
 
   -- an accepted check has passed them all
-  pub check-passed : checkLent n N h rows lambda delta table ≡ accepted → Lent n N h rows lambda delta table × Base n N h rows lambda delta × (K ≡ accepted)
+  pub check-passed : checkLent P table ≡ accepted → Lent P table × Base n N h rows lambda delta × (K ≡ accepted)
   check-passed e =
       let s = then-accepted S (M then K) (sym parts ∙ e) in
       let t = then-accepted M K (s .1) in
@@ -110,10 +115,10 @@ module _ (n N h : ℕ) (rows lambda delta table : List ℕ) where
       (p, based p (t .0), t .1)
 
   abbrev Answers : Verdict → List ℕ → Type 0
-  Answers v after = (v ≡ checkLent n N h rows lambda delta table) × (after ≡ checkLeaves n N h rows lambda delta table)
+  Answers v after = (v ≡ checkLent P table) × (after ≡ checkLeaves P table)
 
   abbrev T : ℕ → List ℕ
-  T = tableAt n N h rows lambda delta table
+  T = tableAt P
 
   abbrev exact : Bool
   exact = hasLength rows (suc n * N) && (hasLength lambda N && (hasLength delta N && hasLength table (suc n * N)))
@@ -121,12 +126,12 @@ module _ (n N h : ℕ) (rows lambda delta table : List ℕ) where
   -- refused by 1 to 4, by 5 to 8, or as the kernels say
   pub check-sizes : (r : Refusal) → refusalOf r ≡ S → Answers (refusalOf r) table
   unfolding checkLeaves
-  check-sizes = at-sizes (T h) T table (checkLent n N h rows lambda delta table) S M K parts (lengths-early n N h exact) marks-early-all (kernels-late (entry N rows) n N h (each lambda) (each delta))
+  check-sizes = at-sizes (T h) T table (checkLent P table) S M K parts (lengths-early n N h exact) marks-early-all (kernels-late (entry N rows) n N h (each lambda) (each delta))
 
   pub check-marks : accepted ≡ S → (r : Refusal) → refusalOf r ≡ M → Answers (refusalOf r) table
   unfolding checkLeaves
-  check-marks = at-marks (T h) T table (checkLent n N h rows lambda delta table) S M K parts (lengths-early n N h exact) marks-early-all (kernels-late (entry N rows) n N h (each lambda) (each delta))
+  check-marks = at-marks (T h) T table (checkLent P table) S M K parts (lengths-early n N h exact) marks-early-all (kernels-late (entry N rows) n N h (each lambda) (each delta))
 
   pub check-climbed : accepted ≡ S → accepted ≡ M → {v : Verdict} {after : List ℕ} → v ≡ K → after ≡ climbLeaves n N h rows lambda delta → Answers v after
   unfolding checkLeaves
-  check-climbed f g e = at-kernels (T h) T table (checkLent n N h rows lambda delta table) S M K parts (lengths-early n N h exact) marks-early-all (kernels-late (entry N rows) n N h (each lambda) (each delta)) f g rows e
+  check-climbed f g e = at-kernels (T h) T table (checkLent P table) S M K parts (lengths-early n N h exact) marks-early-all (kernels-late (entry N rows) n N h (each lambda) (each delta)) f g rows e

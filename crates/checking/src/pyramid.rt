@@ -2,8 +2,12 @@
 use answers::Check;
 use answers::Dim;
 use answers::Level;
+use answers::MOST_HEIGHT;
 use answers::Mark;
+use answers::ROOM;
 use answers::Refusal;
+use answers::STAY;
+use answers::Sizes;
 ghost use mathlib.Core.Path.{_≡_};
 ghost use mathlib.Core.Bool.{false, cond, _&&_, not};
 ghost use mathlib.Core.List.{[]};
@@ -12,11 +16,12 @@ ghost use lib.ListN.{length};
 ghost use lib.Dec.{eqb};
 ghost use Rattle.maps.specs.Mark.{isMark, stay};
 ghost use Rattle.maps.specs.Table.{each, listed};
-ghost use Rattle.maps.specs.Folded.{addΛ, addΔ};
+ghost use Rattle.maps.specs.Folded.{addΛ, addΔ, ofParts};
 ghost use Rattle.maps.specs.MarkRow.{Row};
 ghost use Rattle.maps.specs.Verdict.{accepted};
 ghost use Rattle.maps.specs.CheckPyramid.{checkLent, checkLeaves};
 ghost use Rattle.maps.specs.AddLevel.{refusedMark, addLent, addHeight, addLambda, addDelta, addLeaves};
+ghost use Rattle.answers.specs.Pyramid.{lent};
 ghost use Rattle.answers.specs.Numbers.{verdictOf};
 ghost use Rattle.climbing.specs.Climb.{Base};
 ghost use Rattle.checking.specs.Checked.{lentSizes, baseSizes, baseAndMarks};
@@ -33,53 +38,52 @@ fn fit(n: Dim, darts: u16, rows: usize, lambda: usize, delta: usize, others: boo
 }
 
 // Numbers 1 to 4 of base rows, marks and a table.
-fn lent(
-    n: Dim,
-    darts: u16,
-    h: Level,
-    rows: &[u16],
-    lambda: &[u8],
-    delta: &[u8],
-    table: &[u16],
-) -> Check
-    ensures { λ r. ⌜ verdictOf r ≡ lentSizes (n .0) darts (h .0) (now (rows .entry)) (now (lambda .entry)) (now (delta .entry)) (now (table .entry)) ⌝ }
+fn lent(sizes: Sizes, rows: &[u16], lambda: &[u8], delta: &[u8], table: &[u16]) -> Check
+    ensures { λ r. ⌜ verdictOf r ≡ lentSizes (lent sizes (rows .entry) (lambda .entry) (delta .entry)) (now (table .entry)) ⌝ }
 {
-    let whole = answers::rows_fit(n, darts, table.len());
-    let all = fit(n, darts, rows.len(), lambda.len(), delta.len(), whole);
-    answers::lent(n, darts, h, all)
+    let whole = answers::rows_fit(sizes.n, sizes.darts, table.len());
+    let all = fit(
+        sizes.n,
+        sizes.darts,
+        rows.len(),
+        lambda.len(),
+        delta.len(),
+        whole,
+    );
+    answers::lent(sizes, all)
 }
 
 // Numbers 5 to 8, before anything lent is written.
-fn base_and_marks(n: Dim, darts: u16, h: Level, rows: &[u16], lambda: &[u8], delta: &[u8]) -> Check
-    requires { ⌜ (baseSizes (n .0) darts (now rows) ≡ accepted) × (length (now lambda) ≡ darts) × (length (now delta) ≡ darts) ⌝ }
-    ensures { λ r. ⌜ verdictOf r ≡ baseAndMarks (n .0) darts (h .0) (now (rows .entry)) (now (lambda .entry)) (now (delta .entry)) ⌝ }
+fn base_and_marks(sizes: Sizes, rows: &[u16], lambda: &[u8], delta: &[u8]) -> Check
+    requires { ⌜ (baseSizes (sizes .n .0) (sizes .darts) (now rows) ≡ accepted) × (length (now lambda) ≡ sizes .darts) × (length (now delta) ≡ sizes .darts) ⌝ }
+    ensures { λ r. ⌜ verdictOf r ≡ baseAndMarks (lent sizes (rows .entry) (lambda .entry) (delta .entry)) ⌝ }
 {
-    if let Check::Refused(r) = bases::check_base(n, darts, rows) {
+    if let Check::Refused(r) = bases::check_base(sizes.n, sizes.darts, rows) {
         return Check::Refused(r);
     }
-    answers::marks_refusal(n, darts, h, lambda, delta, Level(0))
+    answers::marks_refusal(sizes, lambda, delta, Level(0))
 }
 
 // Check a whole pyramid. Accepted, the table holds the explicit level h; after 9 or 10 the level whose kernel failed.
-pub fn check(
-    n: Dim,
-    darts: u16,
-    h: Level,
-    rows: &[u16],
-    lambda: &[u8],
-    delta: &[u8],
-    table: &mut [u16],
-) -> Check
-    ensures verdict { λ r. ⌜ verdictOf r ≡ checkLent (n .0) darts (h .0) (now (rows .entry)) (now (lambda .entry)) (now (delta .entry)) (now (table .entry)) ⌝ }
-    ensures table_left { λ _. ⌜ now (table .exit) ≡ checkLeaves (n .0) darts (h .0) (now (rows .entry)) (now (lambda .entry)) (now (delta .entry)) (now (table .entry)) ⌝ }
+pub fn check(sizes: Sizes, rows: &[u16], lambda: &[u8], delta: &[u8], table: &mut [u16]) -> Check
+    ensures verdict { λ r. ⌜ verdictOf r ≡ checkLent (lent sizes (rows .entry) (lambda .entry) (delta .entry)) (now (table .entry)) ⌝ }
+    ensures table_left { λ _. ⌜ now (table .exit) ≡ checkLeaves (lent sizes (rows .entry) (lambda .entry) (delta .entry)) (now (table .entry)) ⌝ }
 {
-    if let Check::Refused(r) = lent(n, darts, h, rows, lambda, delta, table) {
+    if let Check::Refused(r) = lent(sizes, rows, lambda, delta, table) {
         return Check::Refused(r);
     }
-    if let Check::Refused(r) = base_and_marks(n, darts, h, rows, lambda, delta) {
+    if let Check::Refused(r) = base_and_marks(sizes, rows, lambda, delta) {
         return Check::Refused(r);
     }
-    climbing::rise(n, darts as usize, h, rows, lambda, delta, table)
+    climbing::rise(
+        sizes.n,
+        sizes.darts as usize,
+        sizes.h,
+        rows,
+        lambda,
+        delta,
+        table,
+    )
 }
 
 // The new height, or a refusal.
@@ -90,26 +94,31 @@ pub enum Added {
 
 // Numbers 1 to 4 and 20 of an add.
 fn add_lent(
-    n: Dim,
-    darts: u16,
-    h: Level,
+    sizes: Sizes,
     rows: &[u16],
     lambda: &[u8],
     delta: &[u8],
     row: &[u8],
     table: &[u16],
 ) -> Check
-    ensures { λ r. ⌜ verdictOf r ≡ addSizes (n .0) darts (h .0) (now (rows .entry)) (now (lambda .entry)) (now (delta .entry)) (now (row .entry)) (now (table .entry)) ⌝ }
+    ensures { λ r. ⌜ verdictOf r ≡ addSizes (lent sizes (rows .entry) (lambda .entry) (delta .entry)) (now (row .entry)) (now (table .entry)) ⌝ }
 {
     let whole = answers::both(
-        answers::row_fits(darts, row.len()),
-        answers::rows_fit(n, darts, table.len()),
+        answers::row_fits(sizes.darts, row.len()),
+        answers::rows_fit(sizes.n, sizes.darts, table.len()),
     );
-    let all = fit(n, darts, rows.len(), lambda.len(), delta.len(), whole);
-    if let Check::Refused(r) = answers::lent(n, darts, h, all) {
+    let all = fit(
+        sizes.n,
+        sizes.darts,
+        rows.len(),
+        lambda.len(),
+        delta.len(),
+        whole,
+    );
+    if let Check::Refused(r) = answers::lent(sizes, all) {
         return Check::Refused(r);
     }
-    if h.0 == 32 {
+    if sizes.h.0 == MOST_HEIGHT {
         return Check::Refused(Refusal::Full);
     }
     Check::Accepted
@@ -122,13 +131,13 @@ fn mark_refused(n: Dim, h: Level, lambda: Level, mark: Mark) -> bool
     if answers::is_mark(n, mark) {
         return lambda.0 != h.0;
     }
-    mark.0 != 255
+    mark.0 != STAY
 }
 
 // Is any entry of the mark row refused? No branch for each dart, so that many are tested at once.
 fn any_refused(n: Dim, h: Level, lambda: &[u8], row: &[u8]) -> bool
     requires { ⌜ length (now lambda) ≡ length (now row) ⌝ }
-    ensures { λ r. ⌜ (r ≡ false → (x : ℕ) → x < length (now (row .entry)) → refusedMark (n .0) (length (now (row .entry))) (h .0) [] (now (lambda .entry)) [] (now (row .entry)) [] x ≡ false) ⌝ }
+    ensures { λ r. ⌜ (r ≡ false → (x : ℕ) → x < length (now (row .entry)) → refusedMark (n .0) (h .0) (each (now (lambda .entry))) (each (now (row .entry))) x ≡ false) ⌝ }
 {
     let mut any = false;
     for at in 0..row.len() {
@@ -164,22 +173,14 @@ fn row_checked(n: Dim, darts: u16, h: Level, lambda: &[u8], row: &[u8]) -> Check
 }
 
 // Numbers 5 to 8 of an add: the mark row comes last.
-fn add_marked(
-    n: Dim,
-    darts: u16,
-    h: Level,
-    rows: &[u16],
-    lambda: &[u8],
-    delta: &[u8],
-    row: &[u8],
-) -> Check
-    requires { ⌜ (baseSizes (n .0) darts (now rows) ≡ accepted) × (length (now lambda) ≡ darts) × (length (now delta) ≡ darts) × (length (now row) ≡ darts) ⌝ }
-    ensures { λ r. ⌜ verdictOf r ≡ addMarks (n .0) darts (h .0) (now (rows .entry)) (now (lambda .entry)) (now (delta .entry)) (now (row .entry)) ⌝ }
+fn add_marked(sizes: Sizes, rows: &[u16], lambda: &[u8], delta: &[u8], row: &[u8]) -> Check
+    requires { ⌜ (baseSizes (sizes .n .0) (sizes .darts) (now rows) ≡ accepted) × (length (now lambda) ≡ sizes .darts) × (length (now delta) ≡ sizes .darts) × (length (now row) ≡ sizes .darts) ⌝ }
+    ensures { λ r. ⌜ verdictOf r ≡ addMarks (lent sizes (rows .entry) (lambda .entry) (delta .entry)) (now (row .entry)) ⌝ }
 {
-    if let Check::Refused(r) = base_and_marks(n, darts, h, rows, lambda, delta) {
+    if let Check::Refused(r) = base_and_marks(sizes, rows, lambda, delta) {
         return Check::Refused(r);
     }
-    row_checked(n, darts, h, lambda, row)
+    row_checked(sizes.n, sizes.darts, sizes.h, lambda, row)
 }
 
 // Λ of a dart once the level is added: darts marked get the old h, the other survivors the new one.
@@ -252,35 +253,34 @@ fn folded(
 
 // Kernels 0 to h−1, then the mark row as kernel h, from the base.
 fn ascend(
-    n: Dim,
-    darts: u16,
-    h: Level,
+    sizes: Sizes,
     rows: &[u16],
     lambda: &[u8],
     delta: &[u8],
     row: &[u8],
     table: &mut [u16],
 ) -> Check
-    requires { ⌜ Base (n .0) darts (h .0) (now rows) (now lambda) (now delta) × (h .0 ≤ 32) × (length (now table) ≡ length (now rows)) ⌝ }
-    requires { ⌜ (length (now row) ≡ darts) × Row (n .0) darts (h .0) (each (now lambda)) (each (now row)) ⌝ }
-    ensures verdict { λ r. ⌜ verdictOf r ≡ ascends (n .0) darts (h .0) (now (rows .entry)) (now (lambda .entry)) (now (delta .entry)) (now (row .entry)) ⌝ }
-    ensures table_left { λ _. ⌜ now (table .exit) ≡ ascendLeaves (n .0) darts (h .0) (now (rows .entry)) (now (lambda .entry)) (now (delta .entry)) (now (row .entry)) ⌝ }
+    requires { ⌜ Base (sizes .n .0) (sizes .darts) (sizes .h .0) (now rows) (now lambda) (now delta) × (sizes .h .0 ≤ 32) × (length (now table) ≡ length (now rows)) ⌝ }
+    requires { ⌜ (length (now row) ≡ sizes .darts) × Row (sizes .n .0) (sizes .darts) (sizes .h .0) (each (now lambda)) (each (now row)) ⌝ }
+    ensures verdict { λ r. ⌜ verdictOf r ≡ ascends (lent sizes (rows .entry) (lambda .entry) (delta .entry)) (now (row .entry)) ⌝ }
+    ensures table_left { λ _. ⌜ now (table .exit) ≡ ascendLeaves (lent sizes (rows .entry) (lambda .entry) (delta .entry)) (now (row .entry)) ⌝ }
 {
+    let darts = sizes.darts;
     let width = darts as usize;
-    let mut new_lambda = [0u8; 4096];
-    let mut new_delta = [0u8; 4096];
+    let mut new_lambda = [0u8; ROOM];
+    let mut new_delta = [0u8; ROOM];
     folded(
-        n,
-        h,
+        sizes.n,
+        sizes.h,
         row,
         lambda,
         delta,
         &mut new_lambda[..width],
         &mut new_delta[..width],
     );
-    let next = Level(h.0 + 1);
+    let next = Level(sizes.h.0 + 1);
     climbing::rise(
-        n,
+        sizes.n,
         width,
         next,
         rows,
@@ -292,30 +292,28 @@ fn ascend(
 
 // Add a level. Accepted, Λ and Δ hold the new height's marks and the table the new top level; refused, Λ and Δ are as found.
 pub fn add(
-    n: Dim,
-    darts: u16,
-    h: Level,
+    sizes: Sizes,
     rows: &[u16],
     lambda: &mut [u8],
     delta: &mut [u8],
     row: &[u8],
     table: &mut [u16],
 ) -> Added
-    ensures answer { λ r. ⌜ addedOf r ≡ addLent (n .0) darts (h .0) (now (rows .entry)) (now (lambda .entry)) (now (delta .entry)) (now (row .entry)) (now (table .entry)) ⌝ }
-    ensures height { λ r. ⌜ heightOf (h .0) r ≡ addHeight (n .0) darts (h .0) (now (rows .entry)) (now (lambda .entry)) (now (delta .entry)) (now (row .entry)) (now (table .entry)) ⌝ }
-    ensures lambda_left { λ _. ⌜ now (lambda .exit) ≡ addLambda (n .0) darts (h .0) (now (rows .entry)) (now (lambda .entry)) (now (delta .entry)) (now (row .entry)) (now (table .entry)) ⌝ }
-    ensures delta_left { λ _. ⌜ now (delta .exit) ≡ addDelta (n .0) darts (h .0) (now (rows .entry)) (now (lambda .entry)) (now (delta .entry)) (now (row .entry)) (now (table .entry)) ⌝ }
-    ensures table_left { λ _. ⌜ now (table .exit) ≡ addLeaves (n .0) darts (h .0) (now (rows .entry)) (now (lambda .entry)) (now (delta .entry)) (now (row .entry)) (now (table .entry)) ⌝ }
+    ensures answer { λ r. ⌜ addedOf r ≡ addLent (lent sizes (rows .entry) (lambda .entry) (delta .entry)) (now (row .entry)) (now (table .entry)) ⌝ }
+    ensures height { λ r. ⌜ heightOf (sizes .h .0) r ≡ addHeight (lent sizes (rows .entry) (lambda .entry) (delta .entry)) (now (row .entry)) (now (table .entry)) ⌝ }
+    ensures lambda_left { λ _. ⌜ now (lambda .exit) ≡ addLambda (lent sizes (rows .entry) (lambda .entry) (delta .entry)) (now (row .entry)) (now (table .entry)) ⌝ }
+    ensures delta_left { λ _. ⌜ now (delta .exit) ≡ addDelta (lent sizes (rows .entry) (lambda .entry) (delta .entry)) (now (row .entry)) (now (table .entry)) ⌝ }
+    ensures table_left { λ _. ⌜ now (table .exit) ≡ addLeaves (lent sizes (rows .entry) (lambda .entry) (delta .entry)) (now (row .entry)) (now (table .entry)) ⌝ }
 {
-    if let Check::Refused(r) = add_lent(n, darts, h, rows, lambda, delta, row, table) {
+    if let Check::Refused(r) = add_lent(sizes, rows, lambda, delta, row, table) {
         return Added::Refused(r);
     }
-    if let Check::Refused(r) = add_marked(n, darts, h, rows, lambda, delta, row) {
+    if let Check::Refused(r) = add_marked(sizes, rows, lambda, delta, row) {
         return Added::Refused(r);
     }
-    if let Check::Refused(r) = ascend(n, darts, h, rows, lambda, delta, row, table) {
+    if let Check::Refused(r) = ascend(sizes, rows, lambda, delta, row, table) {
         return Added::Refused(r);
     }
-    fold_in(n, h, row, lambda, delta);
-    Added::Grown(Level(h.0 + 1))
+    fold_in(sizes.n, sizes.h, row, lambda, delta);
+    Added::Grown(Level(sizes.h.0 + 1))
 }

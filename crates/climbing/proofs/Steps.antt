@@ -15,7 +15,7 @@ use Rattle.maps.specs.Check.{checkKernel, kernelAt}
 use Rattle.maps.specs.CheckPyramid.{leftBehind}
 use Rattle.laws.proofs.Verdicts.{scan-first, scan-more}
 use Rattle.laws.proofs.Tables.{length-explicit}
-use Rattle.facts.proofs.Levels.{allowed-small}
+use Rattle.laws.proofs.MarkRows.{allowed-small}
 use Rattle.facts.proofs.Climbing.{base-table, table-sound, marked-present, row-check, kernel-marked, next-table}
 use Rattle.answers.specs.Numbers.{refusalOf}
 use Rattle.answers.specs.declared.Refusal.{Refusal}

@@ -44,8 +44,8 @@ pub kernel-late : (a : Involutions) (n N : ℕ) (mark : ℕ → ℕ) (l : ℕ) �
 unfolding at9 at10 check9 check10 checkKernel
 kernel-late a n N mark l =
     says-then (check9 a n N mark l) (check10 a n N mark l)
-    (says-scan N (λ d. scan (suc n) (at9 a n N mark l d)) (λ d ld. says-scan (suc n) (at9 a n N mark l d) (λ j lj. says-when (leaves a n N mark l d j) 9 l j d (refl, refl))))
-    (says-scan N (at10 a n N mark l) (λ d ld. says-when (notFitting a n N mark l d) 10 l (between (mark d) .1) d (refl, refl)))
+    (says-scan N (λ d. scan (suc n) (at9 a n mark l d)) (λ d ld. says-scan (suc n) (at9 a n mark l d) (λ j lj. says-when (leaves a n mark d j) 9 l j d (refl, refl))))
+    (says-scan N (at10 a n mark l) (λ d ld. says-when (notFitting a n mark d) 10 l (between (mark d) .1) d (refl, refl)))
 
 -- kernels with 9 or 10 and the level of one of them
 pub kernels-late : (a : Involutions) (n N h : ℕ) (Λ Δ : ℕ → ℕ) → Says (Late (λ x. x < h)) (checkKernels a n N h Λ Δ)

@@ -12,6 +12,7 @@ use Rattle.maps.specs.Write.{writeLent, writeLength, writeTable, writeLeaves}
 use Rattle.maps.specs.Convert.{newRecord, convertLent, convertLength, convertLeaves}
 use Rattle.laws.proofs.Verdicts.{then-accepted}
 use Rattle.laws.proofs.Sizes.{lengths-exact}
+use Rattle.maps.specs.Folded.{ofParts}
 use Rattle.answers.specs.Numbers.{refusalOf}
 use Rattle.answers.specs.declared.Refusal.{Refusal}
 use Rattle.answers.proofs.Refusals.{refusal-keeps, refused-first}
@@ -29,11 +30,11 @@ module _ (b rows lambda delta table new : List ℕ) where
   tableFront = take (suc (recordDimension b) * recordDarts b) table
 
   abbrev writes : Verdict
-  writes = writeLent (recordDimension b) (recordDarts b) (recordHeight b) (recordRows b either) (recordLambda b either) (recordDelta b either) tableFront new
+  writes = writeLent (ofParts (recordDimension b) (recordDarts b) (recordHeight b) (recordRows b either) (recordLambda b either) (recordDelta b either)) tableFront new
 
   -- of a record that is unpacked, the tests that are left are those of a writing
   pub lent-is : recordLent b either rows lambda delta table ≡ accepted → convertLent b rows lambda delta table new
-      ≡ writeLent (recordDimension b) (recordDarts b) (recordHeight b) (recordRows b either) (recordLambda b either) (recordDelta b either) (take (suc (recordDimension b) * recordDarts b) table) new
+      ≡ writeLent (ofParts (recordDimension b) (recordDarts b) (recordHeight b) (recordRows b either) (recordLambda b either) (recordDelta b either)) (take (suc (recordDimension b) * recordDarts b) table) new
   unfolding convertLent takeLent writeLent
   lent-is e = rw e
 
@@ -62,8 +63,8 @@ module _ (b rows lambda delta table new : List ℕ) where
     -- what is written is what the record holds
     pub all-written : {o : Outcome} {after new′ : List ℕ}
         → o ≡ writing n N h (take (suc n * N) rows′) (take N lambda′) (take N delta′) (take (suc n * N) table) new
-        → after ≡ writeTable n N h (take (suc n * N) rows′) (take N lambda′) (take N delta′) (take (suc n * N) table) new ++ drop (suc n * N) table
-        → new′ ≡ writeLeaves n N h (take (suc n * N) rows′) (take N lambda′) (take N delta′) (take (suc n * N) table) new
+        → after ≡ writeTable (ofParts n N h (take (suc n * N) rows′) (take N lambda′) (take N delta′)) (take (suc n * N) table) new ++ drop (suc n * N) table
+        → new′ ≡ writeLeaves (ofParts n N h (take (suc n * N) rows′) (take N lambda′) (take N delta′)) (take (suc n * N) table) new
         → Answers o after new′
     unfolding convertLength convertLeaves takeTable writeLength writeTable writeLeaves
     all-written o t w =

@@ -11,6 +11,7 @@ ghost use lib.ListN.{length, take as first, drop};
 ghost use Rattle.maps.specs.Record.{either, takeRows, takeLambda, takeDelta, takeTable};
 ghost use Rattle.maps.specs.Write.{writeTable, writeLeaves};
 ghost use Rattle.maps.specs.Convert.{convertLeaves};
+ghost use Rattle.maps.specs.Folded.{ofParts};
 ghost use Rattle.writing.specs.Answers.{writtenOf, writing as writingOf};
 ghost use Rattle.converting.specs.Answers.{converted};
 
@@ -27,8 +28,8 @@ fn write_front(
 ) -> Written
     requires { ⌜ (n .0 ≤ 4) × (darts ≤ 4096) × (suc (n .0) * darts ≤ length (now rows)) × (darts ≤ length (now lambda)) × (darts ≤ length (now delta)) × (suc (n .0) * darts ≤ length (now table)) ⌝ }
     ensures answer { λ r. ⌜ writtenOf r ≡ writingOf (n .0) darts (h .0) (first (suc (n .0) * darts) (now (rows .entry))) (first darts (now (lambda .entry))) (first darts (now (delta .entry))) (first (suc (n .0) * darts) (now (table .entry))) (now (new .entry)) ⌝ }
-    ensures table_left { λ _. ⌜ now (table .exit) ≡ writeTable (n .0) darts (h .0) (first (suc (n .0) * darts) (now (rows .entry))) (first darts (now (lambda .entry))) (first darts (now (delta .entry))) (first (suc (n .0) * darts) (now (table .entry))) (now (new .entry)) ++ drop (suc (n .0) * darts) (now (table .entry)) ⌝ }
-    ensures new_left { λ _. ⌜ now (new .exit) ≡ writeLeaves (n .0) darts (h .0) (first (suc (n .0) * darts) (now (rows .entry))) (first darts (now (lambda .entry))) (first darts (now (delta .entry))) (first (suc (n .0) * darts) (now (table .entry))) (now (new .entry)) ⌝ }
+    ensures table_left { λ _. ⌜ now (table .exit) ≡ writeTable (ofParts (n .0) darts (h .0) (first (suc (n .0) * darts) (now (rows .entry))) (first darts (now (lambda .entry))) (first darts (now (delta .entry)))) (first (suc (n .0) * darts) (now (table .entry))) (now (new .entry)) ++ drop (suc (n .0) * darts) (now (table .entry)) ⌝ }
+    ensures new_left { λ _. ⌜ now (new .exit) ≡ writeLeaves (ofParts (n .0) darts (h .0) (first (suc (n .0) * darts) (now (rows .entry))) (first darts (now (lambda .entry))) (first darts (now (delta .entry)))) (first (suc (n .0) * darts) (now (table .entry))) (now (new .entry)) ⌝ }
 {
     let width = darts as usize;
     let size = answers::entries(n, darts);

@@ -9,7 +9,7 @@ use borrow.Author.Tests.{ltb-false, le-ltb, not-true}
 use Rattle.maps.specs.Map.{Involutions, Valid}
 use Rattle.maps.specs.Cell.{Cell, itself, onward}
 use Rattle.maps.specs.Table.{entry, each}
-use Rattle.maps.specs.Folded.{On, gone, survives, marks, level, levelTable}
+use Rattle.maps.specs.Folded.{On, gone, survives, marks, level, levelTable, ofParts}
 use Rattle.maps.specs.CheckBase.{present}
 use Rattle.maps.specs.Pyramid.{Pyramid}
 use Rattle.maps.specs.Accepted.{Accepted}
@@ -19,20 +19,21 @@ use Rattle.maps.specs.CheckPyramid.{leftBehind}
 use Rattle.maps.specs.Census.{Lowest, CellCount}
 use Rattle.laws.proofs.Tables.{length-explicit}
 use Rattle.laws.proofs.Verdicts.{then-accepted, scan-accepted, scan-all}
-use Rattle.facts.proofs.Checks.{There, sound-map, pyramid-check}
+use Rattle.maps.specs.Explicit.{There}
+use Rattle.facts.proofs.Checks.{sound-map, pyramid-check}
 use Rattle.facts.proofs.Levels.{level-valid}
 use Rattle.facts.proofs.Stored.{stored, stored-present, stored-sound}
 use Rattle.orbits.specs.Explicit.{ExplicitLevel}
 use Rattle.climbing.specs.Climb.{Base, climbsTo, climbToLeaves}
 
 -- two maps that agree on the darts of one
-module _ (a b : Involutions) (n N : ℕ) (p : ℕ → Bool) (same : (j d : ℕ) → j ≤ n → There a n N p d → a j d ≡ b j d) (v : Valid a n (There a n N p)) (i : ℕ) where
+module _ (a b : Involutions) (n N : ℕ) (p : ℕ → Bool) (same : (j d : ℕ) → j ≤ n → There N p d → a j d ≡ b j d) (v : Valid a n (There N p)) (i : ℕ) where
   -- have the same cells there
-  to-cell : (x y : ℕ) → There a n N p x → Cell a n i x y → Cell b n i x y × There a n N p y
+  to-cell : (x y : ℕ) → There N p x → Cell a n i x y → Cell b n i x y × There N p y
   to-cell x _ h itself = (itself, h)
   to-cell x _ h (onward d j c lj ne) = let r = to-cell x d h c in (rw (same j d lj (r .1)) (onward d j (r .0) lj ne), v .inside j d lj (r .1))
 
-  from-cell : (x y : ℕ) → There a n N p x → Cell b n i x y → Cell a n i x y × There a n N p y
+  from-cell : (x y : ℕ) → There N p x → Cell b n i x y → Cell a n i x y × There N p y
   from-cell x _ h itself = (itself, h)
   from-cell x _ h (onward d j c lj ne) =
       let r = from-cell x d h c in
@@ -43,14 +44,14 @@ module _ (a b : Involutions) (n N : ℕ) (p : ℕ → Bool) (same : (j d : ℕ) 
   pub count-to : (q : ℕ → Bool) → ((d : ℕ) → d < N → q d ≡ p d) → (number : ℕ) → CellCount b n N q i number → CellCount a n N p i number
   count-to q alike number c = record {
     counted = c .counted;
-    only = λ d l r. let w = c .only d l r in let there : There a n N p d = (l, sym (alike d l) ∙ w .0) in (there .1, λ e z. w .1 e (to-cell d e there z .0));
+    only = λ d l r. let w = c .only d l r in let there : There N p d = (l, sym (alike d l) ∙ w .0) in (there .1, λ e z. w .1 e (to-cell d e there z .0));
     every = λ d l there low. c .every d l (alike d l ∙ there) (λ e z. low e (from-cell d e (l, there) z .0));
     is = c .is;
   }
 
 module _ (a : Involutions) (n N h : ℕ) (Λ Δ : ℕ → ℕ) (y : Pyramid a n N h Λ Δ) (l : ℕ) (k : l ≤ h) where
   -- every level is valid on its survivors
-  pub survivors-valid : Valid (level a n N (marks h Λ Δ) l) n (There (level a n N (marks h Λ Δ) l) n N (survives Λ l))
+  pub survivors-valid : Valid (level a n N (marks h Λ Δ) l) n (There N (survives Λ l))
   survivors-valid = record {
     inside = λ i d li p. let o = v .inside i d li (on d p) in (o .0, rw (le-ltb (Λ (level a n N (marks h Λ Δ) l i d)) l (o .1)));
     twice = λ i d li p. v .twice i d li (on d p);
@@ -63,14 +64,14 @@ module _ (a : Involutions) (n N h : ℕ) (Λ Δ : ℕ → ℕ) (y : Pyramid a n 
       on : (d : ℕ) → (d < N) × (survives Λ l d ≡ true) → On N Λ l d
       on d p = (p .0, ltb-false (Λ d) l (not-true (gone Λ l d) (p .1)))
 
-module _ (n N h : ℕ) (rows lambda delta table : List ℕ) (p : Accepted n N h rows lambda delta table) (l : ℕ) (k : l ≤ h) where
+module _ (n N h : ℕ) (rows lambda delta table : List ℕ) (p : Accepted (ofParts n N h rows lambda delta) table) (l : ℕ) (k : l ≤ h) where
   abbrev a : Involutions
   a = level (entry N rows) n N (marks h (each lambda) (each delta)) l
 
   abbrev T : List ℕ
   T = levelTable (entry N rows) n N h (each lambda) (each delta) l
 
-  v : Valid a n (There a n N (survives (each lambda) l))
+  v : Valid a n (There N (survives (each lambda) l))
   v = survivors-valid (entry N rows) n N h (each lambda) (each delta) (p .pyramid) l k
 
   -- the table of a level is an explicit level that is accepted
@@ -81,7 +82,7 @@ module _ (n N h : ℕ) (rows lambda delta table : List ℕ) (p : Accepted n N h 
   }
 
   -- and as long as it was
-  pub table-accepted : Accepted n N h rows lambda delta T
+  pub table-accepted : Accepted (ofParts n N h rows lambda delta) T
   table-accepted = record {
     dimension = p .dimension;
     darts = p .darts;
@@ -110,7 +111,7 @@ module _ (n N h : ℕ) (rows lambda delta table : List ℕ) (p : Accepted n N h 
   climb-passes : climbsTo n N h rows lambda delta l ≡ accepted
   unfolding checkKernels checkPyramid
   climb-passes =
-      let marked = check8 (entry N rows) n N h (each lambda) (each delta) in
+      let marked = check8 n N h (each lambda) (each delta) in
       let kernels = checkKernels (entry N rows) n N h (each lambda) (each delta) in
       let whole = pyramid-check (entry N rows) n N h (each lambda) (each delta) (p .pyramid .dimension) (p .pyramid) in
       let below = then-accepted (checkMap (entry N rows) n N (λ d. true)) (marked then kernels) whole .1 in

@@ -13,7 +13,7 @@ use borrow.Author.Tests.{ltb-true, ltb-false}
 use Rattle.maps.specs.Count.{one, count}
 use Rattle.maps.specs.Map.{Involutions}
 use Rattle.maps.specs.Table.{entry, each}
-use Rattle.maps.specs.Folded.{survives, survivors, marks, level}
+use Rattle.maps.specs.Folded.{survives, survivors, marks, level, ofParts}
 use Rattle.maps.specs.Verdict.{Verdict, accepted, refused}
 use Rattle.maps.specs.Census.{CellCount, Census, countAt, countIn, sumAt, CensusTaken, CensusLeaves, CensusPut, CensusPutLeaves}
 use Rattle.laws.proofs.Counting.{count-same}
@@ -73,7 +73,7 @@ module _ (a : Involutions) (n N h : ℕ) (Λ Δ : ℕ → ℕ) where
             k .sum l f ∙ alternating-same (counts l) (counts′ l) (suc n) (λ i li. same-counts l i f (omega arith)) ∙ sym (k′ .sum l f)
 
 -- so a census in an array of arrays is one
-pub taken-one : (n N h : ℕ) (rows lambda delta : List ℕ) (cells cells′ : List (List ℕ)) (sums sums′ : List ℤ) → CensusTaken n N h rows lambda delta cells sums → CensusTaken n N h rows lambda delta cells′ sums′ → (cells ≡ cells′) × (sums ≡ sums′)
+pub taken-one : (n N h : ℕ) (rows lambda delta : List ℕ) (cells cells′ : List (List ℕ)) (sums sums′ : List ℤ) → CensusTaken (ofParts n N h rows lambda delta) cells sums → CensusTaken (ofParts n N h rows lambda delta) cells′ sums′ → (cells ≡ cells′) × (sums ≡ sums′)
 taken-one n N h rows lambda delta cells cells′ sums sums′ k k′ = (
   ext-getD [] cells cells′ (k .rows-long ∙ sym (k′ .rows-long))
       (λ l ll.
@@ -85,7 +85,7 @@ taken-one n N h rows lambda delta cells cells′ sums sums′ k k′ = (
 )
 
 -- and one in slices
-pub put-one : (n N h : ℕ) (rows lambda delta cells cells′ : List ℕ) (sums sums′ : List ℤ) → CensusPut n N h rows lambda delta cells sums → CensusPut n N h rows lambda delta cells′ sums′ → (cells ≡ cells′) × (sums ≡ sums′)
+pub put-one : (n N h : ℕ) (rows lambda delta cells cells′ : List ℕ) (sums sums′ : List ℤ) → CensusPut (ofParts n N h rows lambda delta) cells sums → CensusPut (ofParts n N h rows lambda delta) cells′ sums′ → (cells ≡ cells′) × (sums ≡ sums′)
 put-one n N h rows lambda delta cells cells′ sums sums′ k k′ = (
   ext-getD zero cells cells′ (k .cells-long ∙ sym (k′ .cells-long))
       (λ x lx.
@@ -99,12 +99,12 @@ put-one n N h rows lambda delta cells cells′ sums sums′ k k′ = (
 
 -- what a verdict leaves is one, in arrays
 pub leaves-one : (n N h : ℕ) (rows lambda delta : List ℕ) (v : Verdict) (found : List (List ℕ)) (found-sums : List ℤ) (cells cells′ : List (List ℕ)) (sums sums′ : List ℤ)
-    → CensusLeaves n N h rows lambda delta v found found-sums cells sums → CensusLeaves n N h rows lambda delta v found found-sums cells′ sums′ → (cells ≡ cells′) × (sums ≡ sums′)
+    → CensusLeaves (ofParts n N h rows lambda delta) v found found-sums cells sums → CensusLeaves (ofParts n N h rows lambda delta) v found found-sums cells′ sums′ → (cells ≡ cells′) × (sums ≡ sums′)
 leaves-one n N h rows lambda delta accepted found found-sums cells cells′ sums sums′ k k′ = taken-one n N h rows lambda delta cells cells′ sums sums′ k k′
 leaves-one n N h rows lambda delta (refused number level involution dart) found found-sums cells cells′ sums sums′ k k′ = (k .0 ∙ sym (k′ .0), k .1 ∙ sym (k′ .1))
 
 -- and in slices
 pub put-leaves-one : (n N h : ℕ) (rows lambda delta : List ℕ) (v : Verdict) (found : List ℕ) (found-sums : List ℤ) (cells cells′ : List ℕ) (sums sums′ : List ℤ)
-    → CensusPutLeaves n N h rows lambda delta v found found-sums cells sums → CensusPutLeaves n N h rows lambda delta v found found-sums cells′ sums′ → (cells ≡ cells′) × (sums ≡ sums′)
+    → CensusPutLeaves (ofParts n N h rows lambda delta) v found found-sums cells sums → CensusPutLeaves (ofParts n N h rows lambda delta) v found found-sums cells′ sums′ → (cells ≡ cells′) × (sums ≡ sums′)
 put-leaves-one n N h rows lambda delta accepted found found-sums cells cells′ sums sums′ k k′ = put-one n N h rows lambda delta cells cells′ sums sums′ k k′
 put-leaves-one n N h rows lambda delta (refused number level involution dart) found found-sums cells cells′ sums sums′ k k′ = (k .0 ∙ sym (k′ .0), k .1 ∙ sym (k′ .1))

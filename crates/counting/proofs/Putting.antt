@@ -15,7 +15,7 @@ use mir.Val.{SFits}
 use Rattle.maps.specs.Verdict.{Verdict, accepted, refused, when, _then_}
 use Rattle.maps.specs.Sizes.{number1, number2, number3, number4, sizes, hasLength}
 use Rattle.maps.specs.Table.{entry, each}
-use Rattle.maps.specs.Folded.{survives, marks, level}
+use Rattle.maps.specs.Folded.{survives, marks, level, ofParts}
 use Rattle.maps.specs.Accepted.{Accepted}
 use Rattle.maps.specs.Check.{checkPyramid}
 use Rattle.maps.specs.CheckPyramid.{leftBehind, tableAt, checkLent, checkLeaves}
@@ -83,13 +83,13 @@ module _ (n N h : ℕ) (rows lambda delta table cells : List ℕ) (sums : List �
   others b = hasLength rows (suc n * N) && (hasLength lambda N && (hasLength delta N && b))
 
   abbrev lent : Verdict
-  lent = censusLent n N h rows lambda delta table cells sums
+  lent = censusLent (ofParts n N h rows lambda delta) table cells sums
 
   abbrev Left : List ℕ → List ℤ → Type 0
-  Left = CensusPutLeaves n N h rows lambda delta lent cells sums
+  Left = CensusPutLeaves (ofParts n N h rows lambda delta) lent cells sums
 
   abbrev checked : Verdict
-  checked = checkLent n N h rows lambda delta table
+  checked = checkLent (ofParts n N h rows lambda delta) table
 
   -- a refusal leaves both as found
   refused-left : Refuses lent → Left cells sums
@@ -105,9 +105,9 @@ module _ (n N h : ℕ) (rows lambda delta table cells : List ℕ) (sums : List �
     unfolding number4
     other-lengths = sym other-is
 
-    pub other-table : table ≡ censusTable n N h rows lambda delta table cells sums
+    pub other-table : table ≡ censusTable (ofParts n N h rows lambda delta) table cells sums
     unfolding censusTable
-    other-table = sym (ap (leftBehind (tableAt n N h rows lambda delta table h) (tableAt n N h rows lambda delta table) table) other-is ∙ sizes-early n N h _ .found _ _ _)
+    other-table = sym (ap (leftBehind (tableAt (ofParts n N h rows lambda delta) h) (tableAt (ofParts n N h rows lambda delta)) table) other-is ∙ sizes-early n N h _ .found _ _ _)
 
     pub other-left : Left cells sums
     other-left = let x = sizes-early n N h (checkPyramid (entry N rows) n N h (each lambda) (each delta)) .refuses in refused-left (record { number = x .number; level = x .level; involution = x .involution; dart = x .dart; is = other-is ∙ x .is })
@@ -118,19 +118,19 @@ module _ (n N h : ℕ) (rows lambda delta table cells : List ℕ) (sums : List �
     unfolding censusLent checkLent
     same-verdict = sym (ap (λ (b : Bool). saying (others (hasLength table (suc n * N) && b))) same ∙ ap (λ (b : Bool). saying (others b)) (and-true (hasLength table (suc n * N))))
 
-    pub same-table : checkLeaves n N h rows lambda delta table ≡ censusTable n N h rows lambda delta table cells sums
+    pub same-table : checkLeaves (ofParts n N h rows lambda delta) table ≡ censusTable (ofParts n N h rows lambda delta) table cells sums
     unfolding checkLeaves censusTable
-    same-table = ap (leftBehind (tableAt n N h rows lambda delta table h) (tableAt n N h rows lambda delta table) table) same-verdict
+    same-table = ap (leftBehind (tableAt (ofParts n N h rows lambda delta) h) (tableAt (ofParts n N h rows lambda delta)) table) same-verdict
 
     pub same-refused : (r : Refusal) → refusalOf r ≡ checked → Left cells sums
     same-refused r e = let x = refusal-refuses r in refused-left (record { number = x .number; level = x .level; involution = x .involution; dart = x .dart; is = sym same-verdict ∙ sym e ∙ x .is })
 
   -- the census in arrays, accepted
-  module _ (fine : accepted ≡ checked) (found : List (List ℕ)) (found-sums : List ℤ) (counts : List (List ℕ)) (all : List ℤ) (left : CensusLeaves n N h rows lambda delta checked found found-sums counts all) where
-    p : Accepted n N h rows lambda delta table
-    p = check-accepts n N h rows lambda delta table (sym fine)
+  module _ (fine : accepted ≡ checked) (found : List (List ℕ)) (found-sums : List ℤ) (counts : List (List ℕ)) (all : List ℤ) (left : CensusLeaves (ofParts n N h rows lambda delta) checked found found-sums counts all) where
+    p : Accepted (ofParts n N h rows lambda delta) table
+    p = check-accepts (ofParts n N h rows lambda delta) table (sym fine)
 
-    taken : CensusTaken n N h rows lambda delta counts all
+    taken : CensusTaken (ofParts n N h rows lambda delta) counts all
     taken = rw (sym fine) at left
 
     counted : Counted n N h rows lambda delta counts (h + 1)

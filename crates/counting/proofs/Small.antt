@@ -17,13 +17,13 @@ use Rattle.maps.specs.Census.{Lowest, CellCount, alternating}
 use Rattle.maps.specs.Mark.{isMark, between, hasBeyond, beyond}
 use Rattle.maps.specs.Removal.{goOn, removal}
 use Rattle.maps.specs.Sizes.{number1, number2, number3, number4, sizes}
-use Rattle.maps.specs.Folded.{survives, marks, level}
+use Rattle.maps.specs.Folded.{survives, marks, level, ofParts}
 use Rattle.maps.specs.Accepted.{Accepted}
 use Rattle.maps.specs.CheckPyramid.{checkLent}
 use Rattle.maps.specs.Check.{at5, at6, at7, check5, check6, check7, checkMap}
 use Rattle.maps.proofs.Small.{star, table, small-maps}
 use Rattle.laws.proofs.Verdicts.{scan-accepted, when-accepted, and-both}
-use Rattle.facts.proofs.Checks.{There}
+use Rattle.maps.specs.Explicit.{There}
 use Rattle.facts.proofs.ExactJobs.{check-accepts}
 use Rattle.orbits.specs.Explicit.{ExplicitLevel, but}
 use Rattle.orbits.proofs.Cells.{cell-join, cell-present}
@@ -86,8 +86,8 @@ module _ (a : Involutions) (n i : ℕ) where
     abbrev lowestOnes : ℕ → Bool
     lowestOnes d = p d && eqb (known k d) d
 
-    module _ (v : Valid a n (There a n N p)) (e : settled ≡ accepted) where
-      next : (d j : ℕ) → There a n N p d → j ≤ n → (j ≡ i → ⊥) → known k (a j d) ≡ known k d
+    module _ (v : Valid a n (There N p)) (e : settled ≡ accepted) where
+      next : (d j : ℕ) → There N p d → j ≤ n → (j ≡ i → ⊥) → known k (a j d) ≡ known k d
       next d j h lj ne = go (eqb (known k (a j d)) (known k d)) refl
         where
           at : (p d && (but i j && not (eqb (known k (a j d)) (known k d)))) ≡ false
@@ -97,9 +97,9 @@ module _ (a : Involutions) (n i : ℕ) where
           go true q = eqb-true (known k (a j d)) (known k d) q
           go false q = absurd (true≢false (rw (h .1, ne-eqb j i ne, q) at at))
 
-      along : (x y : ℕ) → There a n N p x → Cell a n i x y → known k y ≡ known k x
+      along : (x y : ℕ) → There N p x → Cell a n i x y → known k y ≡ known k x
       along x _ h itself = refl
-      along x _ h (onward d j c lj ne) = next d j (cell-present a n i (There a n N p) v x d h c) lj ne ∙ along x d h c
+      along x _ h (onward d j c lj ne) = next d j (cell-present a n i (There N p) v x d h c) lj ne ∙ along x d h c
 
       -- so as many cells as darts that know of none lower
       pub small-count : CellCount a n N p i (count lowestOnes N)
@@ -140,9 +140,9 @@ pub star-sums : (alternating (each (4 ∷ 3 ∷ 1 ∷ [])) 3 ≡ pos 2) × (alte
 unfolding alternating
 star-sums = (refl, refl, refl)
 
-star-accepted : Accepted 2 12 2 (star .rows) (star .lambda) (star .delta) (star .rows)
+star-accepted : Accepted (ofParts 2 12 2 (star .rows) (star .lambda) (star .delta)) (star .rows)
 unfolding checkLent sizes number1 number2 number3 number4
-star-accepted = check-accepts 2 12 2 (star .rows) (star .lambda) (star .delta) (star .rows) (small-maps .p9 .0)
+star-accepted = check-accepts (ofParts 2 12 2 (star .rows) (star .lambda) (star .delta)) (star .rows) (small-maps .p9 .0)
 
 -- the number of i-cells of a level of the star
 abbrev pub StarCount : ℕ → ℕ → ℕ → Type 0

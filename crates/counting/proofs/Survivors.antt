@@ -14,7 +14,6 @@ use Rattle.maps.specs.Folded.{survives, marks, level, levelTable}
 use Rattle.maps.specs.CheckBase.{present}
 use Rattle.maps.specs.Accepted.{Accepted}
 use Rattle.maps.specs.Census.{Lowest, CellCount}
-use Rattle.facts.proofs.Checks.{There}
 use Rattle.orbits.specs.Search.{has}
 use Rattle.orbits.specs.Orbits.{Ready}
 use Rattle.orbits.proofs.Sets.{none-has}

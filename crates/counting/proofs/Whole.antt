@@ -11,7 +11,7 @@ use lib.Dec.{eqb, ltb}
 use lib.IntN.{ℤ}
 use borrow.Author.Tests.{eqb-true, eqb-false, ltb-true, ltb-false}
 use Rattle.maps.specs.Table.{entry, each}
-use Rattle.maps.specs.Folded.{survives, marks, level, levelTable}
+use Rattle.maps.specs.Folded.{survives, marks, level, levelTable, ofParts}
 use Rattle.maps.specs.Accepted.{Accepted}
 use Rattle.maps.specs.Verdict.{Verdict, accepted, refused}
 use Rattle.maps.specs.CheckPyramid.{checkLent, checkLeaves}
@@ -43,7 +43,7 @@ module _ (n N h : ℕ) (rows lambda delta : List ℕ) where
     unused = λ l i ll li f. ap (λ (r : List ℕ). getD r i 0) (getD-replicate 33 l none [] ll) ∙ getD-replicate 5 i zero zero li;
   }
 
-  module _ (table : List ℕ) (p : Accepted n N h rows lambda delta table) (counts : List (List ℕ)) (k : ℕ) (lk : k ≤ h) (s : Counted n N h rows lambda delta counts k) (row : List ℕ)
+  module _ (table : List ℕ) (p : Accepted (ofParts n N h rows lambda delta) table) (counts : List (List ℕ)) (k : ℕ) (lk : k ≤ h) (s : Counted n N h rows lambda delta counts k) (row : List ℕ)
       (c : LevelCounted n N (levelTable (entry N rows) n N h (each lambda) (each delta) k) row) where
     -- what holds of the new row and of the others holds of each
     by-row : (Q : List ℕ → Type 0) (l : ℕ) → (l ≡ k → Q row) → ((l ≡ k → ⊥) → Q (getD counts l [])) → Q (getD (set counts k row) l [])
@@ -71,7 +71,7 @@ module _ (n N h : ℕ) (rows lambda delta : List ℕ) where
     }
 
   -- a level climbed to
-  module _ (table : List ℕ) (p : Accepted n N h rows lambda delta table) (k : ℕ) (lk : k ≤ h) (next : List ℕ) (is : next ≡ climbToLeaves n N h rows lambda delta k) where
+  module _ (table : List ℕ) (p : Accepted (ofParts n N h rows lambda delta) table) (k : ℕ) (lk : k ≤ h) (next : List ℕ) (is : next ≡ climbToLeaves n N h rows lambda delta k) where
     -- its table is the explicit level
     pub climbed-table : next ≡ levelTable (entry N rows) n N h (each lambda) (each delta) k
     climbed-table = is ∙ table-climbed n N h rows lambda delta table p k lk
@@ -80,7 +80,7 @@ module _ (n N h : ℕ) (rows lambda delta : List ℕ) where
     pub climbed-explicit : ExplicitLevel n N next
     climbed-explicit = rw climbed-table (table-explicit n N h rows lambda delta table p k lk)
 
-  module _ (table : List ℕ) (p : Accepted n N h rows lambda delta table) (counts : List (List ℕ)) (s : Counted n N h rows lambda delta counts (h + 1)) where
+  module _ (table : List ℕ) (p : Accepted (ofParts n N h rows lambda delta) table) (counts : List (List ℕ)) (s : Counted n N h rows lambda delta counts (h + 1)) where
     -- no count is above the number of darts
     pub counted-few : Few counts
     counted-few = record { rows-long = s .rows-long; row-long = s .row-long; few = λ l i ll li. go l i ll li (ltb h l) refl (ltb n i) refl }
@@ -100,7 +100,7 @@ module _ (n N h : ℕ) (rows lambda delta : List ℕ) where
         rw e at u
 
     -- with the sums it is the census
-    pub counted-census : (sums : List ℤ) → Summed counts sums → CensusTaken n N h rows lambda delta counts sums
+    pub counted-census : (sums : List ℤ) → Summed counts sums → CensusTaken (ofParts n N h rows lambda delta) counts sums
     counted-census sums w = record {
       rows-long = s .rows-long;
       row-long = s .row-long;
@@ -114,7 +114,7 @@ module _ (n N h : ℕ) (rows lambda delta : List ℕ) where
     }
 
   -- and a census has these counts
-  pub taken-counted : (counts : List (List ℕ)) (sums : List ℤ) → CensusTaken n N h rows lambda delta counts sums → Counted n N h rows lambda delta counts (h + 1)
+  pub taken-counted : (counts : List (List ℕ)) (sums : List ℤ) → CensusTaken (ofParts n N h rows lambda delta) counts sums → Counted n N h rows lambda delta counts (h + 1)
   taken-counted counts sums k = record {
     rows-long = k .rows-long;
     row-long = k .row-long;
@@ -125,10 +125,10 @@ module _ (n N h : ℕ) (rows lambda delta : List ℕ) where
 -- what the job leaves
 module _ (n N h : ℕ) (rows lambda delta table : List ℕ) (found : List (List ℕ)) (found-sums : List ℤ) where
   abbrev verdict : Verdict
-  verdict = checkLent n N h rows lambda delta table
+  verdict = checkLent (ofParts n N h rows lambda delta) table
 
   -- refused, counts and sums are as found
-  pub census-refused : (r : Refusal) → refusalOf r ≡ verdict → CensusLeaves n N h rows lambda delta verdict found found-sums found found-sums
+  pub census-refused : (r : Refusal) → refusalOf r ≡ verdict → CensusLeaves (ofParts n N h rows lambda delta) verdict found found-sums found found-sums
   census-refused r e =
       let x = refusal-refuses r in
       let f : verdict ≡ refused (x .number) (x .level) (x .involution) (x .dart) = sym e ∙ x .is in
@@ -136,16 +136,16 @@ module _ (n N h : ℕ) (rows lambda delta table : List ℕ) (found : List (List 
 
   -- accepted, the census
   module _ (e : accepted ≡ verdict) where
-    pub accepts : Accepted n N h rows lambda delta table
-    accepts = check-accepts n N h rows lambda delta table (sym e)
+    pub accepts : Accepted (ofParts n N h rows lambda delta) table
+    accepts = check-accepts (ofParts n N h rows lambda delta) table (sym e)
 
     -- the table of the check serves the first level
-    pub left-accepted : (left : List ℕ) → left ≡ checkLeaves n N h rows lambda delta table → Accepted n N h rows lambda delta left
-    left-accepted left q = rw (q ∙ accepted-table n N h rows lambda delta table (sym e)) (table-accepted n N h rows lambda delta table accepts h (omega arith))
+    pub left-accepted : (left : List ℕ) → left ≡ checkLeaves (ofParts n N h rows lambda delta) table → Accepted (ofParts n N h rows lambda delta) left
+    left-accepted left q = rw (q ∙ accepted-table (ofParts n N h rows lambda delta) table (sym e)) (table-accepted n N h rows lambda delta table accepts h (omega arith))
 
     -- the level that is climbed to last is that of the check
-    pub left-table : (after : List ℕ) → after ≡ levelTable (entry N rows) n N h (each lambda) (each delta) h → after ≡ checkLeaves n N h rows lambda delta table
-    left-table after q = q ∙ sym (accepted-table n N h rows lambda delta table (sym e))
+    pub left-table : (after : List ℕ) → after ≡ levelTable (entry N rows) n N h (each lambda) (each delta) h → after ≡ checkLeaves (ofParts n N h rows lambda delta) table
+    left-table after q = q ∙ sym (accepted-table (ofParts n N h rows lambda delta) table (sym e))
 
-    pub census-left : (counts : List (List ℕ)) (sums : List ℤ) → Counted n N h rows lambda delta counts (h + 1) → Summed counts sums → CensusLeaves n N h rows lambda delta verdict found found-sums counts sums
+    pub census-left : (counts : List (List ℕ)) (sums : List ℤ) → Counted n N h rows lambda delta counts (h + 1) → Summed counts sums → CensusLeaves (ofParts n N h rows lambda delta) verdict found found-sums counts sums
     census-left counts sums s w = let f : verdict ≡ accepted = sym e in rw f (counted-census n N h rows lambda delta table accepts counts s sums w)

@@ -6,6 +6,7 @@ mod sums; // sums.rt: the alternating sums
 use answers::Check;
 use answers::Dim;
 use answers::Level;
+use answers::Sizes;
 use level::count_level;
 pub use slices::census_into;
 use sums::sums_of;
@@ -15,6 +16,8 @@ ghost use lib.ListN.{set};
 ghost use Rattle.maps.specs.Accepted.{Accepted};
 ghost use Rattle.maps.specs.CheckPyramid.{checkLent, checkLeaves, tableAt};
 ghost use Rattle.maps.specs.Census.{CensusLeaves};
+ghost use Rattle.maps.specs.Folded.{ofParts};
+ghost use Rattle.answers.specs.Pyramid.{given};
 ghost use Rattle.answers.specs.Numbers.{verdictOf};
 ghost use Rattle.counting.specs.Counts.{LevelCounted, zeroed, Counted};
 
@@ -46,9 +49,9 @@ fn count_climbed(
     level: Level,
     table: &mut [u16],
 ) -> [u16; 5]
-    requires { ⌜ Accepted (n .0) darts (h .0) (now rows) (now lambda) (now delta) (now table) × (level .0 ≤ h .0) ⌝ }
-    ensures counted { λ r. ⌜ LevelCounted (n .0) darts (tableAt (n .0) darts (h .0) (now (rows .entry)) (now (lambda .entry)) (now (delta .entry)) (now (table .entry)) (level .0)) r ⌝ }
-    ensures table_left { λ _. ⌜ now (table .exit) ≡ tableAt (n .0) darts (h .0) (now (rows .entry)) (now (lambda .entry)) (now (delta .entry)) (now (table .entry)) (level .0) ⌝ }
+    requires { ⌜ Accepted (given (n .0) darts (h .0) rows lambda delta) (now table) × (level .0 ≤ h .0) ⌝ }
+    ensures counted { λ r. ⌜ LevelCounted (n .0) darts (tableAt (given (n .0) darts (h .0) (rows .entry) (lambda .entry) (delta .entry)) (level .0)) r ⌝ }
+    ensures table_left { λ _. ⌜ now (table .exit) ≡ tableAt (given (n .0) darts (h .0) (rows .entry) (lambda .entry) (delta .entry)) (level .0) ⌝ }
 {
     climbing::climb_to(n, darts as usize, h, level, rows, lambda, delta, table);
     count_level(n, darts, table)
@@ -64,9 +67,9 @@ fn count_levels(
     delta: &[u8],
     table: &mut [u16],
 ) -> [[u16; 5]; 33]
-    requires { ⌜ Accepted (n .0) darts (h .0) (now rows) (now lambda) (now delta) (now table) ⌝ }
+    requires { ⌜ Accepted (given (n .0) darts (h .0) rows lambda delta) (now table) ⌝ }
     ensures counted { λ r. ⌜ Counted (n .0) darts (h .0) (now (rows .entry)) (now (lambda .entry)) (now (delta .entry)) r (h .0 + 1) ⌝ }
-    ensures table_left { λ _. ⌜ now (table .exit) ≡ tableAt (n .0) darts (h .0) (now (rows .entry)) (now (lambda .entry)) (now (delta .entry)) (now (table .entry)) (h .0) ⌝ }
+    ensures table_left { λ _. ⌜ now (table .exit) ≡ tableAt (given (n .0) darts (h .0) (rows .entry) (lambda .entry) (delta .entry)) (h .0) ⌝ }
 {
     let mut counts = zeros();
     for l in 0..h.0 + 1 {
@@ -89,11 +92,11 @@ pub fn census(
     cells: &mut [[u16; 5]; 33],
     sums: &mut [i32; 33],
 ) -> Check
-    ensures verdict { λ r. ⌜ verdictOf r ≡ checkLent (n .0) darts (h .0) (now (rows .entry)) (now (lambda .entry)) (now (delta .entry)) (now (table .entry)) ⌝ }
-    ensures table_left { λ _. ⌜ now (table .exit) ≡ checkLeaves (n .0) darts (h .0) (now (rows .entry)) (now (lambda .entry)) (now (delta .entry)) (now (table .entry)) ⌝ }
-    ensures counts { λ _. ⌜ CensusLeaves (n .0) darts (h .0) (now (rows .entry)) (now (lambda .entry)) (now (delta .entry)) (checkLent (n .0) darts (h .0) (now (rows .entry)) (now (lambda .entry)) (now (delta .entry)) (now (table .entry))) (now (cells .entry)) (now (sums .entry)) (now (cells .exit)) (now (sums .exit)) ⌝ }
+    ensures verdict { λ r. ⌜ verdictOf r ≡ checkLent (given (n .0) darts (h .0) (rows .entry) (lambda .entry) (delta .entry)) (now (table .entry)) ⌝ }
+    ensures table_left { λ _. ⌜ now (table .exit) ≡ checkLeaves (given (n .0) darts (h .0) (rows .entry) (lambda .entry) (delta .entry)) (now (table .entry)) ⌝ }
+    ensures counts { λ _. ⌜ CensusLeaves (given (n .0) darts (h .0) (rows .entry) (lambda .entry) (delta .entry)) (checkLent (given (n .0) darts (h .0) (rows .entry) (lambda .entry) (delta .entry)) (now (table .entry))) (now (cells .entry)) (now (sums .entry)) (now (cells .exit)) (now (sums .exit)) ⌝ }
 {
-    if let Check::Refused(r) = checking::check(n, darts, h, rows, lambda, delta, table) {
+    if let Check::Refused(r) = checking::check(Sizes { n, h, darts }, rows, lambda, delta, table) {
         return Check::Refused(r);
     }
     let counts = count_levels(n, darts, h, rows, lambda, delta, table);

@@ -2,10 +2,12 @@
 use answers::Check;
 use answers::Dim;
 use answers::Level;
+use answers::Sizes;
 ghost use mathlib.Core.Path.{_≡_};
 ghost use Prim.Native.Nat.{_≤_, _<_};
 ghost use lib.ListN.{length};
 ghost use Rattle.maps.specs.Census.{censusLent, censusTable, CensusPutLeaves};
+ghost use Rattle.answers.specs.Pyramid.{given};
 ghost use Rattle.answers.specs.Numbers.{verdictOf};
 ghost use Rattle.counting.specs.Slices.{RowPut, CellsPut, Fitting};
 
@@ -51,12 +53,12 @@ pub fn census_into(
     cells: &mut [u16],
     sums: &mut [i32],
 ) -> Check
-    ensures verdict { λ r. ⌜ verdictOf r ≡ censusLent (n .0) darts (h .0) (now (rows .entry)) (now (lambda .entry)) (now (delta .entry)) (now (table .entry)) (now (cells .entry)) (now (sums .entry)) ⌝ }
-    ensures table_left { λ _. ⌜ now (table .exit) ≡ censusTable (n .0) darts (h .0) (now (rows .entry)) (now (lambda .entry)) (now (delta .entry)) (now (table .entry)) (now (cells .entry)) (now (sums .entry)) ⌝ }
-    ensures counts_left { λ _. ⌜ CensusPutLeaves (n .0) darts (h .0) (now (rows .entry)) (now (lambda .entry)) (now (delta .entry)) (censusLent (n .0) darts (h .0) (now (rows .entry)) (now (lambda .entry)) (now (delta .entry)) (now (table .entry)) (now (cells .entry)) (now (sums .entry))) (now (cells .entry)) (now (sums .entry)) (now (cells .exit)) (now (sums .exit)) ⌝ }
+    ensures verdict { λ r. ⌜ verdictOf r ≡ censusLent (given (n .0) darts (h .0) (rows .entry) (lambda .entry) (delta .entry)) (now (table .entry)) (now (cells .entry)) (now (sums .entry)) ⌝ }
+    ensures table_left { λ _. ⌜ now (table .exit) ≡ censusTable (given (n .0) darts (h .0) (rows .entry) (lambda .entry) (delta .entry)) (now (table .entry)) (now (cells .entry)) (now (sums .entry)) ⌝ }
+    ensures counts_left { λ _. ⌜ CensusPutLeaves (given (n .0) darts (h .0) (rows .entry) (lambda .entry) (delta .entry)) (censusLent (given (n .0) darts (h .0) (rows .entry) (lambda .entry) (delta .entry)) (now (table .entry)) (now (cells .entry)) (now (sums .entry))) (now (cells .entry)) (now (sums .entry)) (now (cells .exit)) (now (sums .exit)) ⌝ }
 {
     if !answers::both(cells.len() == 165, sums.len() == 33) {
-        return answers::lent(n, darts, h, false);
+        return answers::lent(Sizes { n, h, darts }, false);
     }
     let mut counts = crate::zeros();
     let mut all = [0i32; 33];

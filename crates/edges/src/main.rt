@@ -3,7 +3,9 @@
 use answers::Check;
 use answers::Dim;
 use answers::Level;
+use answers::Question;
 use answers::Refusal;
+use answers::Sizes;
 ghost use Prim.Native.Nat.{_<_};
 
 // What was tried, and its answer: taken, or refused with number, level, involution and dart.
@@ -50,15 +52,19 @@ fn free_rows(darts: u16, rows: &mut [u16])
 // n=1, N=2, a0 = 1 1, a1 = 0 1, h=1, dart 1 removed: a0 of 0 at level 1.
 fn unchecked_reading() {
     match reading::read(
-        Dim(1),
-        2,
-        Level(1),
+        Sizes {
+            n: Dim(1),
+            h: Level(1),
+            darts: 2,
+        },
         &[1u16, 1, 0, 1],
         &[1u8, 0],
         &[1u8, 0],
-        Level(1),
-        Dim(0),
-        0,
+        Question {
+            level: Level(1),
+            involution: Dim(0),
+            dart: 0,
+        },
     ) {
         reading::Reading::Found(_) => taken(b"unchecked reading"),
         reading::Reading::Refused(r) => refused(b"unchecked reading", r),
@@ -84,9 +90,11 @@ fn heights() {
     checked(
         b"h 32",
         checking::check(
-            Dim(1),
-            1,
-            Level(32),
+            Sizes {
+                n: Dim(1),
+                h: Level(32),
+                darts: 1,
+            },
             &[0u16, 0],
             &[32u8],
             &[1u8],
@@ -96,9 +104,11 @@ fn heights() {
     checked(
         b"h 33",
         checking::check(
-            Dim(1),
-            1,
-            Level(33),
+            Sizes {
+                n: Dim(1),
+                h: Level(33),
+                darts: 1,
+            },
             &[0u16, 0],
             &[33u8],
             &[1u8],
@@ -114,9 +124,11 @@ fn added(name: &[u8], h: Level) {
     let mut delta = [1u8; 1];
     let mut table = [0u16; 2];
     match checking::add(
-        Dim(1),
-        1,
-        h,
+        Sizes {
+            n: Dim(1),
+            h,
+            darts: 1,
+        },
         &[0u16, 0],
         &mut lambda,
         &mut delta,

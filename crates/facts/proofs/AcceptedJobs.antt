@@ -8,7 +8,8 @@ use borrow.Author.Tests.{ltb-false, lt-ltb, le-ltb, not-true}
 use Rattle.maps.specs.Verdict.{accepted, _then_, scan}
 use Rattle.maps.specs.Count.{sum}
 use Rattle.maps.specs.Table.{entry, each}
-use Rattle.maps.specs.Folded.{On, gone, survives, survivors, removedBelow, marks, level, levelTable}
+use Rattle.maps.specs.Folded.{On, gone, survives, survivors, removedBelow, marks, level, levelTable, ofParts, Folded}
+use Rattle.maps.specs.Walk.{walkAt}
 use Rattle.maps.specs.Cost.{reads, cost}
 use Rattle.maps.specs.Pyramid.{Pyramid}
 use Rattle.maps.specs.Check.{checkPyramid}
@@ -16,7 +17,7 @@ use Rattle.maps.specs.Sizes.{number4, number11, number13, hasLength, sizes}
 use Rattle.maps.specs.CheckPyramid.{leftBehind, checkLent, checkLeaves}
 use Rattle.maps.specs.MarksBack.{atMarks8}
 use Rattle.maps.specs.Read.{found, question, readLent, readLentByLevels}
-use Rattle.maps.specs.Unfold.{dartOf, walkAt, atWalk, unfoldLent, unfoldTotal, unfoldLeaves}
+use Rattle.maps.specs.Unfold.{dartOf, atWalk, unfoldLent, unfoldTotal, unfoldLeaves}
 use Rattle.laws.proofs.Verdicts.{then-accepted, scan-all, and-both}
 use Rattle.laws.proofs.Sizes.{Sized, sizes-sized, lengths-exact}
 use Rattle.laws.proofs.Tables.{explicit-same}
@@ -24,7 +25,9 @@ use Rattle.facts.proofs.Checks.{check-pyramid}
 use Rattle.facts.proofs.Facts.{Facts, facts}
 
 -- a pyramid that the check has accepted
-module _ (n N h : ℕ) (rows lambda delta table : List ℕ) (e : checkLent n N h rows lambda delta table ≡ accepted) where
+module _ (P : Folded) (table : List ℕ) (e : checkLent P table ≡ accepted) where
+  open Folded P using (n, N, h, rows, lambda, delta)
+
   abbrev a : ℕ → ℕ → ℕ
   a = entry N rows
 
@@ -55,7 +58,7 @@ module _ (n N h : ℕ) (rows lambda delta table : List ℕ) (e : checkLent n N h
   accepted-facts l k = facts a n N h Λ Δ accepted-pyramid l k
 
   -- the lent table holds the explicit level h
-  pub accepted-table : checkLeaves n N h rows lambda delta table ≡ levelTable a n N h Λ Δ h
+  pub accepted-table : checkLeaves P table ≡ levelTable a n N h Λ Δ h
   unfolding checkLeaves leftBehind
   accepted-table = rw e
 
@@ -69,35 +72,35 @@ module _ (n N h : ℕ) (rows lambda delta table : List ℕ) (e : checkLent n N h
 
   module _ (l : ℕ) (k : l ≤ h) where
     -- a question in range is not refused before the walk
-    pub asked : (i d : ℕ) → i ≤ n → On N Λ l d → question n N h rows lambda delta l i d ≡ accepted
+    pub asked : (i d : ℕ) → i ≤ n → On N Λ l d → question P l i d ≡ accepted
     unfolding question number4 number11 number13
     asked i d li o =
         let x = exact in
         rw (parts .0, x .0, x .1, x .2, le-ltb h l k, le-ltb n i li, lt-ltb d N (o .0), accepted-pyramid .allowed d (o .0), le-ltb (Λ d) l (o .1))
 
     -- the reading is the level's neighbour, with the walk's count
-    pub accepted-read : (i d : ℕ) → i ≤ n → On N Λ l d → readLent n N h rows lambda delta l i d ≡ found (level a n N (marks h Λ Δ) l i d) (reads a n N h Λ Δ l i d)
+    pub accepted-read : (i d : ℕ) → i ≤ n → On N Λ l d → readLent P l i d ≡ found (level a n N (marks h Λ Δ) l i d) (reads a n N h Λ Δ l i d)
     unfolding readLent
     accepted-read i d li o = rw (asked i d li o, accepted-facts l k .ends i d li o)
 
     -- by levels the same
-    pub accepted-by-levels : (i d : ℕ) → i ≤ n → On N Λ l d → readLentByLevels n N h rows lambda delta l i d ≡ readLent n N h rows lambda delta l i d
+    pub accepted-by-levels : (i d : ℕ) → i ≤ n → On N Λ l d → readLentByLevels P l i d ≡ readLent P l i d
     unfolding readLent readLentByLevels
     accepted-by-levels i d li o = rw (accepted-facts l k .alike i d li o)
 
     on : (d : ℕ) → d < N → survives Λ l d ≡ true → On N Λ l d
     on d ld q = (ld, ltb-false (Λ d) l (not-true (gone Λ l d) q))
 
-    at-accepted : (i d : ℕ) → i ≤ n → d < N → atWalk n N h rows lambda delta l table i d ≡ accepted
+    at-accepted : (i d : ℕ) → i ≤ n → d < N → atWalk P l i d ≡ accepted
     unfolding atWalk
     at-accepted i d li ld = go (survives Λ l d) refl
       where
-        go : (x : Bool) → survives Λ l d ≡ x → atWalk n N h rows lambda delta l table i d ≡ accepted
+        go : (x : Bool) → survives Λ l d ≡ x → atWalk P l i d ≡ accepted
         go true q = rw (q, atWalk, accepted-facts l k .ends i d li (on d ld q))
         go false q = rw (q, atWalk)
 
     -- unfolding refuses no level of it
-    pub accepted-unfold : unfoldLent n N h rows lambda delta l table ≡ accepted
+    pub accepted-unfold : unfoldLent P l table ≡ accepted
     unfolding unfoldLent number4 number11 atMarks8
     accepted-unfold =
         let x = exact in
@@ -108,20 +111,20 @@ module _ (n N h : ℕ) (rows lambda delta table : List ℕ) (e : checkLent n N h
           x .2,
           x .3,
           le-ltb h l k,
-          scan-all N (atMarks8 n N h lambda delta l table) (λ d ld. rw (accepted-pyramid .allowed d ld)),
-          scan-all (suc n) (λ i. scan N (atWalk n N h rows lambda delta l table i)) (λ i li. scan-all N (atWalk n N h rows lambda delta l table i) (λ d ld. at-accepted i d (omega arith) ld)),
+          scan-all N (atMarks8 n h (each lambda) (each delta) l) (λ d ld. rw (accepted-pyramid .allowed d ld)),
+          scan-all (suc n) (λ i. scan N (atWalk P l i)) (λ i li. scan-all N (atWalk P l i) (λ d ld. at-accepted i d (omega arith) ld)),
         )
 
     -- unfold's table is the explicit level
-    pub accepted-unfolded : unfoldLeaves n N h rows lambda delta l table ≡ levelTable a n N h Λ Δ l
+    pub accepted-unfolded : unfoldLeaves P l table ≡ levelTable a n N h Λ Δ l
     unfolding unfoldLeaves
     accepted-unfolded =
         rw accepted-unfold
-        (explicit-same (λ i d. dartOf (walkAt n N h rows lambda delta l table i d)) (level a n N (marks h Λ Δ) l) n N (survives Λ l) (survives Λ l) (λ d ld. refl)
+        (explicit-same (λ i d. dartOf (walkAt P l i d)) (level a n N (marks h Λ Δ) l) n N (survives Λ l) (survives Λ l) (λ d ld. refl)
         (λ i d li ld q. ap dartOf (accepted-facts l k .ends i d li (on d ld q))))
 
     -- its total is the sum of the single readings' counts, and obeys the bound
-    pub accepted-total : (unfoldTotal n N h rows lambda delta l table ≡ sum (λ i. sum (λ d. reads a n N h Λ Δ l i d) N) (suc n))
-        × (unfoldTotal n N h rows lambda delta l table ≤ suc n * survivors N Λ l + 2 * removedBelow N Λ l)
+    pub accepted-total : (unfoldTotal P l table ≡ sum (λ i. sum (λ d. reads a n N h Λ Δ l i d) N) (suc n))
+        × (unfoldTotal P l table ≤ suc n * survivors N Λ l + 2 * removedBelow N Λ l)
     unfolding unfoldTotal cost
     accepted-total = rw accepted-unfold (refl, accepted-facts l k .bound)

@@ -12,7 +12,7 @@ use Rattle.maps.specs.Map.{Involutions, Valid}
 use Rattle.maps.specs.Mark.{isMark, stay}
 use Rattle.maps.specs.Kernel.{Kernel}
 use Rattle.maps.specs.Table.{entry, each, listed}
-use Rattle.maps.specs.Folded.{On, survives, refusedMarks, marks, addΛ, addΔ, foldΛ, foldΔ, level, levelTable}
+use Rattle.maps.specs.Folded.{On, survives, refusedMarks, marks, addΛ, addΔ, foldΛ, foldΔ, level, levelTable, ofParts, Folded}
 use Rattle.maps.specs.MarkRow.{Row}
 use Rattle.maps.specs.Pyramid.{Pyramid}
 use Rattle.maps.specs.Check.{at8, check8, checkMap, checkKernel, checkKernels, checkPyramid}
@@ -23,7 +23,8 @@ use Rattle.maps.specs.Readded.{rowBack, lambdaUpto, deltaUpto, Readded}
 use Rattle.laws.proofs.Verdicts.{then-accepted, when-accepted, scan-accepted, scan-all}
 use Rattle.laws.proofs.Sizes.{Sized, sizes-sized, lengths-exact}
 use Rattle.laws.proofs.Tables.{length-listed, getD-listed, listed-of, listed-same, explicit-same}
-use Rattle.facts.proofs.Levels.{Level, level-valid, marks-at, taken-is, allowed-small}
+use Rattle.laws.proofs.MarkRows.{marks-at, taken-is, allowed-small}
+use Rattle.facts.proofs.Levels.{Level, level-valid}
 use Rattle.facts.proofs.Agreement.{kernel-same, level-same}
 use Rattle.facts.proofs.Adding.{marks-not, added}
 use Rattle.facts.proofs.Folding.{Folds, folds, upto, folded-back}
@@ -64,15 +65,17 @@ sizes-lower n N h k z e =
     let t = ltb-false 32 h (when-accepted (ltb 32 h) 3 0 0 0 (s .1)) in
     rw (r .0, s .0, le-ltb 32 k (omega arith))
 
-check-parts : (a : Involutions) (n N h : ℕ) (Λ Δ : ℕ → ℕ) → checkPyramid a n N h Λ Δ ≡ accepted → (checkMap a n N (λ d. true) ≡ accepted) × (check8 a n N h Λ Δ ≡ accepted) × (checkKernels a n N h Λ Δ ≡ accepted)
+check-parts : (a : Involutions) (n N h : ℕ) (Λ Δ : ℕ → ℕ) → checkPyramid a n N h Λ Δ ≡ accepted → (checkMap a n N (λ d. true) ≡ accepted) × (check8 n N h Λ Δ ≡ accepted) × (checkKernels a n N h Λ Δ ≡ accepted)
 unfolding checkPyramid
 check-parts a n N h Λ Δ e =
-    let r = then-accepted (checkMap a n N (λ d. true)) (check8 a n N h Λ Δ then checkKernels a n N h Λ Δ) e in
-    let s = then-accepted (check8 a n N h Λ Δ) (checkKernels a n N h Λ Δ) (r .1) in
+    let r = then-accepted (checkMap a n N (λ d. true)) (check8 n N h Λ Δ then checkKernels a n N h Λ Δ) e in
+    let s = then-accepted (check8 n N h Λ Δ) (checkKernels a n N h Λ Δ) (r .1) in
     (r .0, s .0, s .1)
 
 -- an add that was accepted
-module _ (n N h : ℕ) (rows lambda delta row table : List ℕ) (e : addLent n N h rows lambda delta row table ≡ accepted) where
+module _ (P : Folded) (row table : List ℕ) (e : addLent P row table ≡ accepted) where
+  open Folded P using (n, N, h, rows, lambda, delta)
+
   abbrev a : Involutions
   a = entry N rows
 
@@ -95,7 +98,7 @@ module _ (n N h : ℕ) (rows lambda delta row table : List ℕ) (e : addLent n N
     kernels : checkKernels a n N h Λ Δ ≡ accepted
     kernel : checkKernel (level a n N (marks h Λ Δ) h) n N mark h ≡ accepted
 
-  row-of : ((d : ℕ) → d < N → refusedMark n N h rows lambda delta row table d ≡ false) → Row n N h Λ mark
+  row-of : ((d : ℕ) → d < N → refusedMark n h Λ mark d ≡ false) → Row n N h Λ mark
   row-of f = record {
     top = λ d ld q. eqb-true (Λ d) h (rw q at (not-false (cond (isMark n (mark d)) (eqb (Λ d) h) (eqb (mark d) stay)) (f d ld)));
     rest = λ d ld q. eqb-true (mark d) stay (rw q at (not-false (cond (isMark n (mark d)) (eqb (Λ d) h) (eqb (mark d) stay)) (f d ld)));
@@ -106,17 +109,17 @@ module _ (n N h : ℕ) (rows lambda delta row table : List ℕ) (e : addLent n N
   parts =
       let last = checkKernel (level a n N (marks h Λ Δ) h) n N mark h in
       let v₇ = checkKernels a n N h Λ Δ then last in
-      let v₆ = scan N (atRow8 n N h rows lambda delta row table) then v₇ in
-      let v₅ = check8 a n N h Λ Δ then v₆ in
+      let v₆ = scan N (atRow8 n h Λ mark) then v₇ in
+      let v₅ = check8 n N h Λ Δ then v₆ in
       let v₄ = checkMap a n N (λ d. true) then v₅ in
-      let v₃ = number20 n N h rows lambda delta row table then v₄ in
+      let v₃ = number20 h then v₄ in
       let exact = hasLength rows (suc n * N) && (hasLength lambda N && (hasLength delta N && (hasLength row N && hasLength table (suc n * N)))) in
       let e₁ = then-accepted (sizes n N h) (number4 exact then v₃) e in
       let e₂ = then-accepted (number4 exact) v₃ (e₁ .1) in
-      let e₃ = then-accepted (number20 n N h rows lambda delta row table) v₄ (e₂ .1) in
+      let e₃ = then-accepted (number20 h) v₄ (e₂ .1) in
       let e₄ = then-accepted (checkMap a n N (λ d. true)) v₅ (e₃ .1) in
-      let e₅ = then-accepted (check8 a n N h Λ Δ) v₆ (e₄ .1) in
-      let e₆ = then-accepted (scan N (atRow8 n N h rows lambda delta row table)) v₇ (e₅ .1) in
+      let e₅ = then-accepted (check8 n N h Λ Δ) v₆ (e₄ .1) in
+      let e₆ = then-accepted (scan N (atRow8 n h Λ mark)) v₇ (e₅ .1) in
       let e₇ = then-accepted (checkKernels a n N h Λ Δ) last (e₆ .1) in
       let s = sizes-sized n N h (e₁ .0) in
       record {
@@ -124,14 +127,14 @@ module _ (n N h : ℕ) (rows lambda delta row table : List ℕ) (e : addLent n N
         fit = lengths-exact exact (e₂ .0);
         room = eqb-false h 32 (when-accepted (eqb h 32) 20 0 0 0 (e₃ .0));
         base = valid-base a n N h Λ Δ (omega arith) (map-sound a n N (λ d. true) (e₄ .0));
-        allowed = λ d ld. when-accepted (refusedMarks n h (Λ d) (Δ d)) 8 0 0 d (scan-accepted N (at8 a n N h Λ Δ) (e₅ .0) d ld);
-        marked = row-of (λ d ld. when-accepted (refusedMark n N h rows lambda delta row table d) 8 h 0 d (scan-accepted N (atRow8 n N h rows lambda delta row table) (e₆ .0) d ld));
+        allowed = λ d ld. when-accepted (refusedMarks n h (Λ d) (Δ d)) 8 0 0 d (scan-accepted N (at8 n h Λ Δ) (e₅ .0) d ld);
+        marked = row-of (λ d ld. when-accepted (refusedMark n h Λ mark d) 8 h 0 d (scan-accepted N (atRow8 n h Λ mark) (e₆ .0) d ld));
         kernels = e₇ .0;
         kernel = e₇ .1;
       }
 
   -- an added level makes an accepted pyramid, of the marks that are left in Λ and Δ
-  pub add-pyramid : Pyramid a n N (suc h) (each (addLambda n N h rows lambda delta row table)) (each (addDelta n N h rows lambda delta row table))
+  pub add-pyramid : Pyramid a n N (suc h) (each (addLambda P row table)) (each (addDelta P row table))
   unfolding addLambda addDelta
   add-pyramid =
       let p = parts in
@@ -176,7 +179,9 @@ module _ (a : Involutions) (n N h : ℕ) (Λ Δ : ℕ → ℕ) (y : Pyramid a n 
   })
 
 -- Adding the rows that were read back, one after the other, to the base: each is accepted, and gives the Λ, Δ and table of that height.
-module _ (n N h : ℕ) (rows lambda delta : List ℕ) (y : Pyramid (entry N rows) n N h (each lambda) (each delta)) where
+module _ (P : Folded) (y : Pyramid (entry (P .N) (P .rows)) (P .n) (P .N) (P .h) (each (P .lambda)) (each (P .delta))) where
+  open Folded P using (n, N, h, rows, lambda, delta)
+
   pub whole-height : length lambda ≡ N → length delta ≡ N → (lambdaUpto n N h lambda delta h ≡ lambda) × (deltaUpto n N h lambda delta h ≡ delta)
   whole-height e f = (
     sym (listed-of (foldΛ n (marks h (each lambda) (each delta)) h) N lambda e (λ d ld. sym (folded-back n h (each lambda) (each delta) (y .dimension) d (y .allowed d ld) .0))),
@@ -235,14 +240,14 @@ module _ (n N h : ℕ) (rows lambda delta : List ℕ) (y : Pyramid (entry N rows
     kernel-lists =
         kernel-same (level a₁ n N ks k) (level a₁ n N (marks k L D) k) n (On N (each lambda) k) (On N L k) (ks k) R (level-valid a₁ n N h (each lambda) (each delta) y k (omega arith)) (y .kernel k z) level-is (λ d o. sameR d (o .0)) on-lists
 
-    refused-none : (d : ℕ) → d < N → refusedMark n N k rows (lambdaUpto n N h lambda delta k) (deltaUpto n N h lambda delta k) (rowBack N h lambda delta k) table d ≡ false
+    refused-none : (d : ℕ) → d < N → refusedMark n k (each (lambdaUpto n N h lambda delta k)) (each (rowBack N h lambda delta k)) d ≡ false
     refused-none d ld = go (isMark n (R d)) refl
       where
-        go : (x : Bool) → isMark n (R d) ≡ x → refusedMark n N k rows (lambdaUpto n N h lambda delta k) (deltaUpto n N h lambda delta k) (rowBack N h lambda delta k) table d ≡ false
+        go : (x : Bool) → isMark n (R d) ≡ x → refusedMark n k (each (lambdaUpto n N h lambda delta k)) (each (rowBack N h lambda delta k)) d ≡ false
         go true q = rw (q, eq-eqb (L d) k (row-lists .top d ld q))
         go false q = rw (q, eq-eqb (R d) stay (row-lists .rest d ld q))
 
-    verdict : addLent n N k rows (lambdaUpto n N h lambda delta k) (deltaUpto n N h lambda delta k) (rowBack N h lambda delta k) table ≡ accepted
+    verdict : addLent (ofParts n N k rows (lambdaUpto n N h lambda delta k) (deltaUpto n N h lambda delta k)) (rowBack N h lambda delta k) table ≡ accepted
     unfolding addLent number4 number20 atRow8
     verdict =
         let s = sizes-sized n N h sized in
@@ -257,7 +262,7 @@ module _ (n N h : ℕ) (rows lambda delta : List ℕ) (y : Pyramid (entry N rows
           ne-eqb k 32 (λ e. omega arith),
           c .0,
           c .1,
-          scan-all N (atRow8 n N k rows (lambdaUpto n N h lambda delta k) (deltaUpto n N h lambda delta k) (rowBack N h lambda delta k) table) (λ d ld. rw (refused-none d ld)),
+          scan-all N (atRow8 n k (each (lambdaUpto n N h lambda delta k)) (each (rowBack N h lambda delta k))) (λ d ld. rw (refused-none d ld)),
           c .2,
           sound-kernel (level a₁ n N (marks k L D) k) n N R k (On N L k) (level-valid a₁ n N k L D below k (omega arith)) (λ d o. o .0) (λ d ld q. (ld, omega (arith, row-lists .top d ld q))) kernel-lists,
         )

@@ -12,7 +12,8 @@ use Rattle.maps.specs.Removal.{removal}
 use Rattle.maps.specs.Folded.{On, refusedMarks, marks, addΛ, addΔ, level}
 use Rattle.maps.specs.MarkRow.{Row}
 use Rattle.maps.specs.Pyramid.{Pyramid}
-use Rattle.facts.proofs.Levels.{Level, level-valid, marks-at}
+use Rattle.laws.proofs.MarkRows.{marks-at}
+use Rattle.facts.proofs.Levels.{Level, level-valid}
 use Rattle.facts.proofs.Agreement.{removal-local, kernel-same, level-same}
 
 -- the marks of darts whose Λ is not l

@@ -7,7 +7,7 @@ use lib.Dec.{eqb}
 use Rattle.maps.specs.Map.{Involutions, Valid}
 use Rattle.maps.specs.Mark.{isMark, between, beyond}
 use Rattle.maps.specs.Kernel.{Kernel}
-use Rattle.maps.specs.Removal.{goOn, removal}
+use Rattle.maps.specs.Removal.{goOn, turnsFrom, removal}
 use Rattle.maps.specs.Folded.{level}
 use Rattle.laws.proofs.Marks.{mark-rows, beyond-row}
 use Rattle.facts.proofs.Commuting.{kernel-commutes, commutes-kernel}
@@ -17,21 +17,32 @@ module _ (a a′ : Involutions) (n : ℕ) (present : ℕ → Type 0) (mark mark�
     (inside : (t d : ℕ) → t ≤ n → present d → isMark n (mark d) ≡ true → present (a t d))
     (whole : (d : ℕ) → present d → isMark n (mark d) ≡ true → mark (a (between (mark d) .1) d) ≡ mark d)
     (agree : (t d : ℕ) → t ≤ n → present d → isMark n (mark d) ≡ true → a t d ≡ a′ t d) (same : (d : ℕ) → present d → mark d ≡ mark′ d) where
-  pub goOn-local : (times i d : ℕ) → i ≤ n → present d → goOn a n mark times i d ≡ goOn a′ n mark′ times i d
-  unfolding goOn
-  goOn-local zero i d li p = refl
-  goOn-local (suc times) i d li p = go (isMark n (mark d)) refl (eqb (between (mark d) .0) i) refl (λ e z. goOn-local times i e li z)
+  -- the way on, and its turns
+  way-local : (times i d : ℕ) → i ≤ n → present d → (goOn a n mark times i d ≡ goOn a′ n mark′ times i d) × (turnsFrom a n mark times i d ≡ turnsFrom a′ n mark′ times i d)
+  unfolding goOn turnsFrom
+  way-local zero i d li p = (refl, refl)
+  way-local (suc times) i d li p = go (isMark n (mark d)) refl (eqb (between (mark d) .0) i) refl (λ e z. way-local times i e li z)
     where
-      go : (x : Bool) → isMark n (mark d) ≡ x → (y : Bool) → eqb (between (mark d) .0) i ≡ y → ((e : ℕ) → present e → goOn a n mark times i e ≡ goOn a′ n mark′ times i e) → goOn a n mark (suc times) i d ≡ goOn a′ n mark′ (suc times) i d
-      go false q y r ih = rw (← (same d p), q, goOn)
-      go true q false r ih = rw (← (same d p), q, r, goOn)
+      go : (x : Bool) → isMark n (mark d) ≡ x → (y : Bool) → eqb (between (mark d) .0) i ≡ y → ((e : ℕ) → present e → (goOn a n mark times i e ≡ goOn a′ n mark′ times i e) × (turnsFrom a n mark times i e ≡ turnsFrom a′ n mark′ times i e))
+          → (goOn a n mark (suc times) i d ≡ goOn a′ n mark′ (suc times) i d) × (turnsFrom a n mark (suc times) i d ≡ turnsFrom a′ n mark′ (suc times) i d)
+      go false q y r ih = (rw (← (same d p), q, goOn), rw (← (same d p), q, turnsFrom))
+      go true q false r ih = (rw (← (same d p), q, r, goOn), rw (← (same d p), q, r, turnsFrom))
       go true q true r ih =
           let u = between (mark d) .1 in
           let lu : u ≤ n = mark-rows n (mark d) q .second in
           let p₁ = inside u d lu p q in
           let q₁ : isMark n (mark (a u d)) ≡ true = rw (whole d p q) q in
           let s : a i (a u d) ≡ a′ i (a′ u d) = agree i (a u d) li p₁ q₁ ∙ ap (a′ i) (agree u d lu p q) in
-          rw (← (same d p), q, r, goOn, ← (same d p)) (ih (a i (a u d)) (inside i (a u d) li p₁ q₁) ∙ ap (goOn a′ n mark′ times i) s)
+          let w = ih (a i (a u d)) (inside i (a u d) li p₁ q₁) in (
+            rw (← (same d p), q, r, goOn, ← (same d p)) (w .0 ∙ ap (goOn a′ n mark′ times i) s),
+            rw (← (same d p), q, r, turnsFrom, ← (same d p)) (ap suc (w .1 ∙ ap (turnsFrom a′ n mark′ times i) s)),
+          )
+
+  pub goOn-local : (times i d : ℕ) → i ≤ n → present d → goOn a n mark times i d ≡ goOn a′ n mark′ times i d
+  goOn-local times i d li p = way-local times i d li p .0
+
+  pub turns-local : (times i d : ℕ) → i ≤ n → present d → turnsFrom a n mark times i d ≡ turnsFrom a′ n mark′ times i d
+  turns-local times i d li p = way-local times i d li p .1
 
 -- in a valid map with a kernel
 module _ (a a′ : Involutions) (n : ℕ) (present : ℕ → Type 0) (mark mark′ : ℕ → ℕ) (v : Valid a n present) (k : Kernel a n present mark)

@@ -1,110 +1,80 @@
 -- In an accepted pyramid a reading by levels is the direct reading: the same neighbour, with the same count. Assumes nothing.
-use mathlib.Core.Path.{_≡_, refl, sym, ap, _∙_}
-use mathlib.Core.Logic.{inl, inr}
-use mathlib.Core.Bool.{true, false, _&&_}
+use mathlib.Core.Path.{_≡_, sym, ap, _∙_}
+use mathlib.Core.Bool.{true, _&&_}
 use Prim.Native.Nat.{ℕ, zero, suc, _+_, _*_, _≤_, _<_}
 use native.Mathlib.Omega.{arith}
 use lib.Dec.{eqb}
-use borrow.Author.Tests.{lt-ltb, eq-eqb}
+use borrow.Author.Tests.{lt-ltb, eq-eqb, eqb-true}
 use Rattle.maps.specs.Map.{Involutions}
 use Rattle.maps.specs.Mark.{between}
-use Rattle.maps.specs.Folded.{On, gone, level}
+use Rattle.maps.specs.Folded.{On, gone}
 use Rattle.maps.specs.Pyramid.{Pyramid}
 use Rattle.maps.specs.Walk.{Walked, ended, walk}
 use Rattle.maps.specs.ByLevels.{readBase, overLevel, readLevel, byLevels}
 use Rattle.laws.proofs.Counting.{count-le}
-use Rattle.facts.proofs.Runs.{swap, swap-fst, swap-snd, turn, Run, unique}
-use Rattle.facts.proofs.Removals.{Pairs}
-use Rattle.laws.proofs.Marks.{same-mark}
-use Rattle.facts.proofs.Readings.{walks}
-use Rattle.facts.proofs.Levels.{low, high, taken, taken-is, Level, level-suc, level-valid, level-led, widen, join, narrow, wider, level-passing, gone-suc, gone-taken, not-gone}
+use Rattle.laws.proofs.Marks.{mark-rows, same-mark}
+use Rattle.laws.proofs.MarkRows.{allowed-small}
+use Rattle.facts.proofs.Levels.{low, high}
+use Rattle.facts.proofs.Towers.{floor, gone-kernel}
+use Rattle.facts.proofs.TowerFacts.{Rounds, stop, pass, ByLevels}
+use Rattle.facts.proofs.Readings.{own, walk-course}
 
 module _ (a : Involutions) (n N h : ℕ) (Λ Δ : ℕ → ℕ) (y : Pyramid a n N h Λ Δ) where
-  -- the direct walk at level l from row t of dart d ends at e, and `read`, from as many entries read as are given, answers so
-  record Finds (l t d e : ℕ) (read : ℕ → Walked) : Type 0 where
-    passes : ℕ
-    run : Run a (low Δ) (high Δ) (gone Λ l) passes t d t e
-    reads : (c : ℕ) → c + suc passes ≤ 1 + 2 * N → read c ≡ ended t e (c + suc passes)
+  -- a reading in the tower: of row t of dart d on level l, past p darts, to e
+  abbrev Reading : ℕ → ℕ → ℕ → ℕ → ℕ → Type 0
+  Reading = ByLevels a n N Λ (low Δ) (high Δ)
+
+  -- `read`, from as many entries read as are given, answers so
+  abbrev Answers : ℕ → ℕ → ℕ → (ℕ → Walked) → Type 0
+  Answers p t e read = (c : ℕ) → c + suc p ≤ 1 + 2 * N → read c ≡ ended t e (c + suc p)
 
   -- the question is involution i of dart b
   module _ (i b : ℕ) where
-    abbrev reading : ℕ → ℕ → ℕ → ℕ → Walked
-    reading l = readLevel a n N h Λ Δ i b l
+    abbrev read : ℕ → ℕ → ℕ → ℕ → Walked
+    read = readLevel a n N h Λ Δ i b
 
-    abbrev Found : ℕ → Type 0
-    Found l = (t d : ℕ) → t ≤ n → On N Λ l d → Finds l t d (Level a n N h Λ Δ y l t d) (reading l t d)
+    -- every reading on level l that is short enough is answered, and ends at a dart
+    abbrev Answered : ℕ → Type 0
+    Answered l = (p t d e : ℕ) → t ≤ n → d < N → p < 1 + 2 * N → Reading l p t d e → (e < N) × Answers p t e (read l t d)
 
-    found-base : Found zero
-    unfolding readLevel readBase level
-    found-base t d lt o =
-        let e : a t d < N = y .base .inside t d lt (o .0) in
-        record {
-          passes = 0;
-          run = ((refl, refl), not-gone a n N h Λ Δ y zero (a t d) (e, omega arith));
-          reads = λ c m. let s : suc c ≡ c + 1 = omega arith in rw (lt-ltb c (1 + 2 * N) (omega arith), lt-ltb (a t d) N e, y .allowed (a t d) e, s, readBase);
-        }
+    answered-base : Answered zero
+    unfolding readLevel readBase
+    answered-base p t d e lt ld f r =
+        let le : a t d < N = y .base .inside t d lt ld in
+        rw (r .0, r .1) (le, λ c m. let s : suc c ≡ c + 1 = omega arith in rw (lt-ltb c (1 + 2 * N) (omega arith), lt-ltb (a t d) N le, y .allowed (a t d) le, s, readBase))
 
-    module _ (l : ℕ) (k : l < h) (below : Found l) (t : ℕ) (lt : t ≤ n) where
-      abbrev A : Involutions
-      A = Level a n N h Λ Δ y l
-
-      abbrev over : ℕ → ℕ → ℕ → Walked
-      over times d = overLevel a n N h Λ Δ i b (reading l) l times t d
-
-      -- the walk over level l that passes f pairs of darts
-      found-pairs : (f times d e : ℕ) → f < times → On N Λ l d → Pairs A (low Δ) (high Δ) (taken n h Λ Δ l) f t d e → Finds (suc l) t d e (over times d)
+    -- the walk over level l: it goes on no more often than it passes darts
+    module _ (l : ℕ) (k : l < h) (below : Answered l) (t : ℕ) (lt : t ≤ n) where
+      answered-rounds : (times p d e : ℕ) → p < times → d < N → p < 1 + 2 * N → Rounds a n N Λ (low Δ) (high Δ) (Reading l) l t p d e → (e < N) × Answers p t e (overLevel a n N h Λ Δ i b (read l) l times t d)
       unfolding overLevel
-      found-pairs f zero d e m o x = absurd (omega arith)
-      found-pairs zero (suc times) d e m o x =
-          let w = below t d lt o in
-          let q : gone Λ (suc l) (A t d) ≡ false = not-gone a n N h Λ Δ y (suc l) (A t d) (narrow a n N h Λ Δ (y .dimension) (y .allowed) l k (A t d) (level-valid a n N h Λ Δ y l (omega arith) .inside t d lt o) (x .0)) in
-          rw (x .1) (record {
-            passes = w .passes;
-            run = (widen a (low Δ) (high Δ) (gone Λ l) (gone Λ (suc l)) (gone-suc a n N h Λ Δ y l) (w .passes) t d t (A t d) (w .run .0), q);
-            reads = λ c z. rw (w .reads c z, q, overLevel);
-          })
-      found-pairs (suc f) (suc times) d e m o x =
-          let v = level-valid a n N h Λ Δ y l (omega arith) in
-          let e₁ = A t d in
-          let o₁ : On N Λ l e₁ = v .inside t d lt o in
-          let P = x .0 in
-          let s = high Δ e₁ in
-          let ls : s ≤ n = level-passing a n N h Λ Δ y l k .high e₁ o₁ (P .first) in
-          let e₂ = A s e₁ in
-          let w₁ = below t d lt o in
-          let w₂ = below s e₁ ls o₁ in
-          let w₃ = found-pairs f times e₂ e (omega arith) (v .inside s e₁ ls o₁) (x .1) in
-          let more = gone Λ (suc l) in
-          let g₁ = gone-taken a n N h Λ Δ y l e₁ (P .first) in
-          let g₂ = gone-taken a n N h Λ Δ y l e₂ (P .second) in
-          let s₁ : turn a (low Δ) (high Δ) more e₁ t ≡ s = ap (swap (low Δ e₁) s) (sym (P .first-dim)) ∙ swap-fst (low Δ e₁) s in
-          let s₂ : turn a (low Δ) (high Δ) more e₂ s ≡ t = ap (swap (low Δ e₂) (high Δ e₂)) (sym (P .second-via)) ∙ swap-snd (low Δ e₂) (high Δ e₂) ∙ P .second-dim ∙ P .first-dim in
-          let r₂ = join a (low Δ) (high Δ) (gone Λ l) more (gone-suc a n N h Λ Δ y l) (w₂ .passes) (w₃ .passes) s e₁ s e₂ t e (w₂ .run .0) g₂ (inr (sym (P .second-via))) (rw s₂ (w₃ .run)) in
-          let q₁ : (eqb (Λ e₁) l && eqb (between (Δ e₁) .0) t) ≡ true = rw (eq-eqb (Λ e₁) l (taken-is n h Λ Δ (y .dimension) l e₁ (P .first) .lambda), eq-eqb (between (Δ e₁) .0) t (P .first-dim)) in
-          let q₂ : (eqb (Λ e₂) l && eqb (Δ e₂) (Δ e₁)) ≡ true = rw (eq-eqb (Λ e₂) l (taken-is n h Λ Δ (y .dimension) l e₂ (P .second) .lambda), eq-eqb (Δ e₂) (Δ e₁) (same-mark (Δ e₂) (Δ e₁) (P .second-dim) (P .second-via))) in
-          record {
-            passes = w₁ .passes + suc (w₂ .passes + suc (w₃ .passes));
-            run = join a (low Δ) (high Δ) (gone Λ l) more (gone-suc a n N h Λ Δ y l) (w₁ .passes) (w₂ .passes + suc (w₃ .passes)) t d t e₁ t e (w₁ .run .0) g₁ (inl (sym (P .first-dim))) (rw s₁ r₂);
-            reads = λ c z.
-                let c₁ = c + suc (w₁ .passes) in
-                let c₂ = c₁ + suc (w₂ .passes) in
-                let u : c₂ + suc (w₃ .passes) ≡ c + suc (w₁ .passes + suc (w₂ .passes + suc (w₃ .passes))) = omega arith in
-                rw (w₁ .reads c (omega arith), g₁, q₁, w₂ .reads c₁ (omega arith), q₂, ← u, overLevel) (w₃ .reads c₂ (omega arith));
-          }
+      answered-rounds zero p d e m ld f x = absurd (omega arith)
+      answered-rounds (suc times) p d e m ld f (stop r q) = let w = below p t d e lt ld f r in (w .0, λ c z. rw (w .1 c z, q, overLevel))
+      answered-rounds (suc times) p d e m ld f (pass {p₁} {p₂} {p₃} {e₁ = e₁} {e₂ = e₂} r₁ k₁ dim₁ r₂ k₂ dim₂ via₂ x) =
+          let w₁ = below p₁ t d e₁ lt ld (omega arith) r₁ in
+          let l₁ = eqb-true (Λ e₁) l k₁ in
+          let ls : high Δ e₁ ≤ n = mark-rows n (Δ e₁) (allowed-small n h Λ Δ e₁ (y .allowed e₁ (w₁ .0)) (omega arith)) .second in
+          let w₂ = below p₂ (high Δ e₁) e₁ e₂ ls (w₁ .0) (omega arith) r₂ in
+          let w₃ = answered-rounds times p₃ e₂ e (omega arith) (w₂ .0) (omega arith) x in
+          let q₁ : (eqb (Λ e₁) l && eqb (between (Δ e₁) .0) t) ≡ true = rw (k₁, eq-eqb (between (Δ e₁) .0) t dim₁) in
+          let q₂ : (eqb (Λ e₂) l && eqb (Δ e₂) (Δ e₁)) ≡ true = rw (k₂, eq-eqb (Δ e₂) (Δ e₁) (same-mark (Δ e₂) (Δ e₁) dim₂ via₂)) in (
+            w₃ .0,
+            λ c z.
+                let c₁ = c + suc p₁ in
+                let c₂ = c₁ + suc p₂ in
+                let u : c₂ + suc p₃ ≡ c + suc (p₁ + suc (p₂ + suc p₃)) = omega arith in
+                rw (w₁ .1 c (omega arith), gone-kernel Λ l e₁ k₁, q₁, w₂ .1 c₁ (omega arith), q₂, ← u, overLevel) (w₃ .1 c₂ (omega arith)),
+          )
 
-    found : (l : ℕ) → l ≤ h → Found l
+    answered : (l : ℕ) → l ≤ h → Answered l
     unfolding readLevel
-    found zero k t d lt o = found-base t d lt o
-    found (suc l) k t d lt o =
-        let w = level-led a n N h Λ Δ y l k t d lt o in
-        rw (level-suc a n N h Λ Δ (y .dimension) l) (found-pairs l k (found l (omega arith)) t lt (w .half) (1 + 2 * N) d _ (omega (arith, w .half-le)) (wider a n N h Λ Δ (y .dimension) l d o .0) (w .by-two))
+    answered zero k p t d e lt ld f x = answered-base p t d e lt ld f x
+    answered (suc l) k p t d e lt ld f x = answered-rounds l k (answered l (omega arith)) t lt (1 + 2 * N) p d e f ld f x
 
   pub by-levels : (l : ℕ) → l ≤ h → (i b : ℕ) → i ≤ n → On N Λ l b → byLevels a n N h Λ Δ i b l ≡ walk a n N h Λ Δ l i b
   unfolding byLevels
   by-levels l k i b li o =
-      let e = Level a n N h Λ Δ y l i b in
-      let w = found i b l k i b li o in
-      let d = walks a n N h Λ Δ y l k i b li o in
-      let p : w .passes ≡ d .passes = unique a (low Δ) (high Δ) (gone Λ l) (w .passes) (d .passes) i b i e i e (w .run) (d .run) .0 in
-      let z : 0 + suc (w .passes) ≡ suc (d .passes) = omega arith in
-      w .reads 0 (omega (arith, d .few, count-le (gone Λ l) N)) ∙ ap (ended i e) z ∙ sym (d .reads)
+      let w = own a n N h Λ Δ y l k .course i b li o in
+      let e = floor a (low Δ) (high Δ) N Λ l i b in
+      let f : w .passes < 1 + 2 * N = omega (arith, own a n N h Λ Δ y l k .few i b li o, count-le (gone Λ l) N) in
+      let z : 0 + suc (w .passes) ≡ suc (w .passes) = omega arith in
+      answered i b l k (w .passes) i b e li (o .0) f (w .alike) .1 0 (omega arith) ∙ ap (ended i e) z ∙ sym (walk-course a n N h Λ Δ y l k i b li o)

@@ -1,5 +1,5 @@
 -- From one explicit level to the next, as the pyramid's check goes up. Assumes nothing.
-use mathlib.Core.Path.{_≡_, refl, _∙_}
+use mathlib.Core.Path.{_≡_, refl, sym, _∙_}
 use mathlib.Core.Bool.{Bool, true, false, _&&_, not}
 use mathlib.Core.List.{List}
 use Prim.Native.Nat.{ℕ, suc, _*_, _≤_, _<_}
@@ -18,9 +18,12 @@ use Rattle.maps.specs.MarkRow.{Row}
 use Rattle.maps.specs.Pyramid.{Pyramid}
 use Rattle.maps.specs.Check.{checkKernel, kernelAt, checkKernels}
 use Rattle.maps.specs.CheckBase.{present}
-use Rattle.facts.proofs.Levels.{taken-is, narrow}
+use Rattle.laws.proofs.MarkRows.{taken-is}
+use Rattle.facts.proofs.Levels.{taken-in}
+use Rattle.facts.proofs.Towers.{on-above}
 use Rattle.laws.proofs.Tables.{explicit-of, explicit-same}
-use Rattle.facts.proofs.Checks.{There, Sound, upto, kernel-sound}
+use Rattle.maps.specs.Explicit.{There, Sound}
+use Rattle.facts.proofs.Checks.{checked-kernels, checked-valid, kernel-sound}
 use Rattle.facts.proofs.Stored.{stored-present, stored-sound, stored-check, stored-removal}
 use Rattle.facts.proofs.Adding.{Allowed, removed, never, allowed-cases, level-new}
 use Rattle.laws.proofs.Verdicts.{and-both}
@@ -41,16 +44,16 @@ module _ (a : Involutions) (n N h : ℕ) (Λ Δ : ℕ → ℕ) (ln : n ≤ 4) (l
   abbrev T : List ℕ
   T = levelTable a n N h Λ Δ l
 
-  there-on : (d : ℕ) → There A n N on d → On N Λ l d
+  there-on : (d : ℕ) → There N on d → On N Λ l d
   there-on d o = (o .0, ltb-false (Λ d) l (not-true (gone Λ l d) (o .1)))
 
-  on-there : (d : ℕ) → On N Λ l d → There A n N on d
+  on-there : (d : ℕ) → On N Λ l d → There N on d
   on-there d o = (o .0, rw (le-ltb (Λ d) l (o .1)))
 
   valid-on : Valid A n (On N Λ l)
-  valid-on = upto a n N h Λ Δ (omega arith) base allowed l k checked l (omega arith) .0
+  valid-on = checked-valid a n N h Λ Δ (omega arith) base allowed l k checked
 
-  valid-there : Valid A n (There A n N on)
+  valid-there : Valid A n (There N on)
   valid-there = record {
     inside = λ i d li o. on-there (A i d) (valid-on .inside i d li (there-on d o));
     twice = λ i d li o. valid-on .twice i d li (there-on d o);
@@ -87,8 +90,8 @@ module _ (a : Involutions) (n N h : ℕ) (Λ Δ : ℕ → ℕ) (ln : n ≤ 4) (l
         kernel-on : Kernel A n (On N Λ l) mark
         kernel-on = kernel-sound A n N mark l (On N Λ l) valid-on (λ d o. o .0) passed
 
-        kernel-there : Kernel A n (There A n N on) mark
-        kernel-there = kernel-sound A n N mark l (There A n N on) valid-there (λ d o. o .0) passed
+        kernel-there : Kernel A n (There N on) mark
+        kernel-there = kernel-sound A n N mark l (There N on) valid-there (λ d o. o .0) passed
 
         -- accepted, its removal is stored
         pub row-removed : (next : ℕ → Bool) → ((d : ℕ) → d < N → (on d && not (isMark n (mark d))) ≡ next d)
@@ -105,7 +108,7 @@ module _ (a : Involutions) (n N h : ℕ) (Λ Δ : ℕ → ℕ) (ln : n ≤ 4) (l
           let t = taken-is n h Λ Δ (omega arith) l d q in
           rw (p, q, lt-ltb (Λ d) (suc l) (omega arith))
       go false p false q =
-          let o = narrow a n N h Λ Δ (omega arith) allowed l f d (ld, ltb-false (Λ d) l p) q in
+          let o = on-above N Λ l d ((ld, ltb-false (Λ d) l p), sym (taken-in a n N h Λ Δ (omega arith) allowed l d f ld) ∙ q) in
           rw (p, q, le-ltb (Λ d) (suc l) (o .1))
 
   pub kernel-marked : (d : ℕ) → isMark n (marks h Λ Δ l d) ≡ true → l ≤ Λ d
@@ -126,7 +129,7 @@ module _ (a : Involutions) (n N h : ℕ) (Λ Δ : ℕ → ℕ) (ln : n ≤ 4) (l
   scanned = checked
 
   pub checked-pyramid : Pyramid a n N h Λ Δ
-  checked-pyramid = record { dimension = omega arith; base = base; allowed = allowed; kernel = upto a n N h Λ Δ (omega arith) base allowed h (omega arith) scanned h (omega arith) .1 }
+  checked-pyramid = record { dimension = omega arith; base = base; allowed = allowed; kernel = checked-kernels a n N h Λ Δ (omega arith) base allowed h (omega arith) scanned }
 
   pub checked-kernel : Kernel (level a n N (marks h Λ Δ) h) n (On N Λ h) mark
   checked-kernel = kernel-on a n N h Λ Δ ln lN base allowed h (omega arith) scanned mark (λ d ld q. let t = r .top d ld q in omega arith) mark (λ d ld. refl) passed

@@ -15,7 +15,7 @@ use Rattle.maps.specs.Cost.{cost}
 use Rattle.maps.specs.Pyramid.{Pyramid}
 use Rattle.maps.specs.Check.{checkPyramid}
 use Rattle.laws.proofs.Marks.{mark-rows}
-use Rattle.facts.proofs.Levels.{allowed-small}
+use Rattle.laws.proofs.MarkRows.{allowed-small}
 use Rattle.facts.proofs.Checks.{check-pyramid, pyramid-check}
 use Rattle.facts.proofs.Duals.{dual, dualMark, Mirrors, mirrors, dual-twice, dual-equal, first-test, dualΔ, dualWalked, dual-refused, walk-dual, cost-dual, levels-dual, pyramid-dual}
 

@@ -17,7 +17,8 @@ use Rattle.maps.specs.Pyramid.{Pyramid}
 use Rattle.laws.proofs.Counting.{sum-same, sum-reverse}
 use Rattle.laws.proofs.Marks.{Kind, removes, shrinks, kind, is-removal, is-contraction, removed-rows, contracted-rows, stay-none, mark-rows, same-mark, beyond-row}
 use Rattle.facts.proofs.Commuting.{kernel-commutes, commutes-kernel}
-use Rattle.facts.proofs.Levels.{level-valid, allowed-small}
+use Rattle.laws.proofs.MarkRows.{allowed-small}
+use Rattle.facts.proofs.Levels.{level-valid}
 use Rattle.facts.proofs.Agreement.{kernel-same}
 
 -- a_i becomes a_(n−i)

@@ -12,8 +12,8 @@ use Rattle.maps.specs.ByLevels.{byLevels}
 use Rattle.maps.specs.Cost.{reads, cost}
 use Rattle.maps.specs.MarkRow.{Row}
 use Rattle.maps.specs.Pyramid.{Pyramid}
-use Rattle.facts.proofs.Levels.{level-valid}
-use Rattle.facts.proofs.Readings.{Walks, walks}
+use Rattle.facts.proofs.Levels.{level-valid, level-floor}
+use Rattle.facts.proofs.Readings.{own, walk-course}
 use Rattle.facts.proofs.Costs.{cost-bound}
 use Rattle.facts.proofs.ByLevels.{by-levels}
 use Rattle.facts.proofs.Adding.{level-kept, level-new, added}
@@ -33,17 +33,17 @@ module _ (a : Involutions) (n N h : ℕ) (Λ Δ : ℕ → ℕ) where
     pub alike : (i b : ℕ) → i ≤ n → On N Λ l b → byLevels a n N h Λ Δ i b l ≡ walk a n N h Λ Δ l i b
 
   module _ (y : Pyramid a n N h Λ Δ) where
-    reads-is : (l : ℕ) → l ≤ h → (i b : ℕ) → i ≤ n → (o : On N Λ l b) → (w : Walks a n N h Λ Δ y l i b) → reads a n N h Λ Δ l i b ≡ suc (w .passes)
+    reads-is : (l : ℕ) (k : l ≤ h) (i b : ℕ) (li : i ≤ n) (o : On N Λ l b) → reads a n N h Λ Δ l i b ≡ suc (own a n N h Λ Δ y l k .course i b li o .passes)
     unfolding reads
-    reads-is l k i b li o w = rw (le-ltb (Λ b) l (o .1)) (ap countOf (w .reads))
+    reads-is l k i b li o = rw (le-ltb (Λ b) l (o .1)) (ap countOf (walk-course a n N h Λ Δ y l k i b li o))
 
     pub facts : (l : ℕ) → l ≤ h → Facts l
     facts l k = record {
       valid = level-valid a n N h Λ Δ y l k;
-      ends = λ i b li o. let w = walks a n N h Λ Δ y l k i b li o in rw (reads-is l k i b li o w) (w .reads);
-      few = λ i b li o. let w = walks a n N h Λ Δ y l k i b li o in rw (reads-is l k i b li o w) (omega arith, omega (arith, w .few));
+      ends = λ i b li o. rw (reads-is l k i b li o, level-floor a n N h Λ Δ y l k i b li o) (walk-course a n N h Λ Δ y l k i b li o);
+      few = λ i b li o. rw (reads-is l k i b li o) (omega arith, omega (arith, own a n N h Λ Δ y l k .few i b li o));
       bound = cost-bound a n N h Λ Δ y l k;
-      alike = λ i b li o. by-levels a n N h Λ Δ y l k i b li o;
+      alike = by-levels a n N h Λ Δ y l k;
     }
 
     -- one accepted kernel more, on level h: an accepted pyramid again; the lower levels stay, the new top is the removal

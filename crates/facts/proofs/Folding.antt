@@ -12,7 +12,8 @@ use Rattle.maps.specs.Folded.{On, refusedMarks, marks, addΛ, addΔ, foldΛ, fo
 use Rattle.maps.specs.MarkRow.{Row, Kernels}
 use Rattle.maps.specs.Pyramid.{Pyramid}
 use Rattle.laws.proofs.Marks.{stay-none}
-use Rattle.facts.proofs.Levels.{Level, level-valid, marks-at}
+use Rattle.laws.proofs.MarkRows.{marks-at}
+use Rattle.facts.proofs.Levels.{Level, level-valid}
 use Rattle.facts.proofs.Agreement.{removal-local, kernel-same, valid-same}
 use Rattle.facts.proofs.Adding.{Allowed, removed, never, allowed-cases, cases-allowed, marks-not, marks-kept, marks-new, on-kept, level-kept, level-new, added}
 

@@ -11,7 +11,7 @@ use Rattle.maps.specs.Verdict.{Verdict, accepted, refused, when, _then_}
 use Rattle.maps.specs.Map.{Involutions}
 use Rattle.maps.specs.Kernel.{Kernel}
 use Rattle.maps.specs.Table.{entry, each, listed}
-use Rattle.maps.specs.Folded.{On, marks, level}
+use Rattle.maps.specs.Folded.{On, marks, level, ofParts, Folded}
 use Rattle.maps.specs.Pyramid.{Pyramid}
 use Rattle.maps.specs.Check.{checkMap, check8, check9, check10, checkKernel, kernelAt, checkKernels, checkPyramid}
 use Rattle.maps.specs.CheckPyramid.{checkLent}
@@ -62,7 +62,7 @@ module _ (a : Involutions) (n N h : ℕ) (Λ Δ : ℕ → ℕ) (y : Pyramid a n 
     where
       below : (k : ℕ) → k < l → kernelAt a n N h (joinΛ l Λ) Δ k ≡ accepted
       below k z =
-          let old = scan-accepted (suc h) (kernelAt a n N (suc h) Λ Δ) (then-accepted (check8 a n N (suc h) Λ Δ) (checkKernels a n N (suc h) Λ Δ) (then-accepted (checkMap a n N (λ d. true)) (check8 a n N (suc h) Λ Δ then checkKernels a n N (suc h) Λ Δ) (pyramid-check a n N (suc h) Λ Δ (y .dimension) y) .1) .1) k (omega arith) in
+          let old = scan-accepted (suc h) (kernelAt a n N (suc h) Λ Δ) (then-accepted (check8 n N (suc h) Λ Δ) (checkKernels a n N (suc h) Λ Δ) (then-accepted (checkMap a n N (λ d. true)) (check8 n N (suc h) Λ Δ then checkKernels a n N (suc h) Λ Δ) (pyramid-check a n N (suc h) Λ Δ (y .dimension) y) .1) .1) k (omega arith) in
           ap (λ (b : Involutions). checkKernel b n N (marks h (joinΛ l Λ) Δ k) k) (sym (level-lower a n N h Λ Δ l lh k (omega arith)))
           ∙ ap (λ (m : ℕ → ℕ). checkKernel (level a n N (marks (suc h) Λ Δ) k) n N m k) (sym (marks-lower a n N h Λ Δ l lh k z)) ∙ old
 
@@ -71,7 +71,7 @@ module _ (a : Involutions) (n N h : ℕ) (Λ Δ : ℕ → ℕ) (y : Pyramid a n 
 
       go : (v : Verdict) → verdict ≡ v → checkKernels a n N h (joinΛ l Λ) Δ ≡ verdict
       go accepted e =
-          then-accepted (check8 a n N h (joinΛ l Λ) Δ) (checkKernels a n N h (joinΛ l Λ) Δ) (then-accepted (checkMap a n N (λ d. true)) (check8 a n N h (joinΛ l Λ) Δ then checkKernels a n N h (joinΛ l Λ) Δ) (pyramid-check a n N h (joinΛ l Λ) Δ (y .dimension) (verdict-joins e .pyramid)) .1) .1
+          then-accepted (check8 n N h (joinΛ l Λ) Δ) (checkKernels a n N h (joinΛ l Λ) Δ) (then-accepted (checkMap a n N (λ d. true)) (check8 n N h (joinΛ l Λ) Δ then checkKernels a n N h (joinΛ l Λ) Δ) (pyramid-check a n N h (joinΛ l Λ) Δ (y .dimension) (verdict-joins e .pyramid)) .1) .1
           ∙ sym e
       go (refused k m i d) e = scan-first h (kernelAt a n N h (joinΛ l Λ) Δ) l k m i d lh (scan-all l (kernelAt a n N h (joinΛ l Λ) Δ) below) (here ∙ e) ∙ sym e
 
@@ -86,29 +86,32 @@ each-joined N lambda l long = fun-ext (λ d. go d (ltb d N) refl)
         let none : each lambda d ≡ 0 = List·getD-eq-default lambda 0 (omega (arith, long)) in
         List·getD-eq-default (listed (joinΛ l (each lambda)) N) 0 (omega (arith, length-listed (joinΛ l (each lambda)) N)) ∙ rw (none, le-ltb l 0 zero-le)
 
--- What an accepted join means: the check had accepted, l+1 is below h, the joined kernel is one of level l; what is left in Λ is accepted again with the height that is left, and has the same levels up to l, and from l+2 upward under their new numbers.
-pub record Joins (n N h : ℕ) (rows lambda delta table : List ℕ) (l : ℕ) : Type 0 where
-  pub checked : checkLent n N h rows lambda delta table ≡ accepted
-  pub low : suc l < h
-  pub joined : Joined (entry N rows) n N (h - 1) (each lambda) (each delta) l
-  pub left : (joinHeight n N h rows lambda delta table l ≡ h - 1) × (each (joinLambda n N h rows lambda delta table l) ≡ joinΛ l (each lambda))
-  pub again : checkLent n N (joinHeight n N h rows lambda delta table l) rows (joinLambda n N h rows lambda delta table l) delta table ≡ accepted
+module _ (P : Folded) where
+  open Folded P using (n, N, h, rows, lambda, delta)
+
+  -- What an accepted join means: the check had accepted, l+1 is below h, the joined kernel is one of level l; what is left in Λ is accepted again with the height that is left, and has the same levels up to l, and from l+2 upward under their new numbers.
+  pub record Joins (table : List ℕ) (l : ℕ) : Type 0 where
+    pub checked : checkLent P table ≡ accepted
+    pub low : suc l < h
+    pub joined : Joined (entry N rows) n N (h - 1) (each lambda) (each delta) l
+    pub left : (joinHeight P table l ≡ h - 1) × (each (joinLambda P table l) ≡ joinΛ l (each lambda))
+    pub again : checkLent (ofParts n N (joinHeight P table l) rows (joinLambda P table l) delta) table ≡ accepted
 
 -- the two tests before the joined kernel
-tests : (n N h : ℕ) (rows lambda delta table : List ℕ) (l : ℕ) → joinLent n N h rows lambda delta table l ≡ accepted
-    → (checkLent n N h rows lambda delta table ≡ accepted) × (suc l < h) × (checkKernel (level (entry N rows) n N (marks h (each lambda) (each delta)) l) n N (joinedRow n N h rows lambda delta table l) l ≡ accepted)
+tests : (n N h : ℕ) (rows lambda delta table : List ℕ) (l : ℕ) → joinLent (ofParts n N h rows lambda delta) table l ≡ accepted
+    → (checkLent (ofParts n N h rows lambda delta) table ≡ accepted) × (suc l < h) × (checkKernel (level (entry N rows) n N (marks h (each lambda) (each delta)) l) n N (joinedRow (ofParts n N h rows lambda delta) l) l ≡ accepted)
 unfolding joinLent
 tests n N h rows lambda delta table l e =
-    let K = checkKernel (level (entry N rows) n N (marks h (each lambda) (each delta)) l) n N (joinedRow n N h rows lambda delta table l) l in
-    let r = then-accepted (checkLent n N h rows lambda delta table) (when (leb h (suc l)) (refused 11 l 0 0) then K) e in
+    let K = checkKernel (level (entry N rows) n N (marks h (each lambda) (each delta)) l) n N (joinedRow (ofParts n N h rows lambda delta) l) l in
+    let r = then-accepted (checkLent (ofParts n N h rows lambda delta) table) (when (leb h (suc l)) (refused 11 l 0 0) then K) e in
     let s = then-accepted (when (leb h (suc l)) (refused 11 l 0 0)) K (r .1) in
     (r .0, leb-false h (suc l) (when-accepted (leb h (suc l)) 11 l 0 0 (s .0)), s .1)
 
-pub join-joins : (n N h : ℕ) (rows lambda delta table : List ℕ) (l : ℕ) → joinLent n N h rows lambda delta table l ≡ accepted → Joins n N h rows lambda delta table l
+pub join-joins : (n N h : ℕ) (rows lambda delta table : List ℕ) (l : ℕ) → joinLent (ofParts n N h rows lambda delta) table l ≡ accepted → Joins (ofParts n N h rows lambda delta) table l
 unfolding joinHeight joinLambda
 join-joins n N h rows lambda delta table l e =
     let t = tests n N h rows lambda delta table l e in
-    let p : Accepted n N h rows lambda delta table = check-accepts n N h rows lambda delta table (t .0) in
+    let p : Accepted (ofParts n N h rows lambda delta) table = check-accepts (ofParts n N h rows lambda delta) table (t .0) in
     let up : suc (h - 1) ≡ h = omega (arith, t .1) in
     let f = joinΛ l (each lambda) in
     let j = verdict-joins (entry N rows) n N (h - 1) (each lambda) (each delta) (rw up (p .pyramid)) l (omega (arith, t .1)) (rw up (t .2)) in
@@ -118,7 +121,7 @@ join-joins n N h rows lambda delta table l e =
       low = t .1;
       joined = j;
       left = rw e (refl, is);
-      again = rw e (accepted-check n N (h - 1) rows (listed f N) delta table (record {
+      again = rw e (accepted-check (ofParts n N (h - 1) rows (listed f N) delta) table (record {
         dimension = p .dimension;
         darts = p .darts;
         height = omega (arith, p .height);
@@ -131,23 +134,23 @@ join-joins n N h rows lambda delta table l e =
     }
 
 -- after an accepted check and with l+1 below h, the verdict is that of the joined kernel
-join-verdict : (n N h : ℕ) (rows lambda delta table : List ℕ) (l : ℕ) → checkLent n N h rows lambda delta table ≡ accepted → suc l < h
-    → joinLent n N h rows lambda delta table l ≡ checkKernel (level (entry N rows) n N (marks h (each lambda) (each delta)) l) n N (joinedRow n N h rows lambda delta table l) l
+join-verdict : (n N h : ℕ) (rows lambda delta table : List ℕ) (l : ℕ) → checkLent (ofParts n N h rows lambda delta) table ≡ accepted → suc l < h
+    → joinLent (ofParts n N h rows lambda delta) table l ≡ checkKernel (level (entry N rows) n N (marks h (each lambda) (each delta)) l) n N (joinedRow (ofParts n N h rows lambda delta) l) l
 unfolding joinLent
 join-verdict n N h rows lambda delta table l e low = rw (e, lt-leb h (suc l) low)
 
 -- It is refused exactly where the joined kernel is no kernel of level l: where it is one, it is accepted.
-pub kernel-joins : (n N h : ℕ) (rows lambda delta table : List ℕ) (l : ℕ) → checkLent n N h rows lambda delta table ≡ accepted → suc l < h
-    → Kernel (level (entry N rows) n N (marks h (each lambda) (each delta)) l) n (On N (each lambda) l) (joinedRow n N h rows lambda delta table l) → joinLent n N h rows lambda delta table l ≡ accepted
+pub kernel-joins : (n N h : ℕ) (rows lambda delta table : List ℕ) (l : ℕ) → checkLent (ofParts n N h rows lambda delta) table ≡ accepted → suc l < h
+    → Kernel (level (entry N rows) n N (marks h (each lambda) (each delta)) l) n (On N (each lambda) l) (joinedRow (ofParts n N h rows lambda delta) l) → joinLent (ofParts n N h rows lambda delta) table l ≡ accepted
 kernel-joins n N h rows lambda delta table l e low k =
     let up : suc (h - 1) ≡ h = omega arith in
-    let y = check-accepts n N h rows lambda delta table e .pyramid in
+    let y = check-accepts (ofParts n N h rows lambda delta) table e .pyramid in
     join-verdict n N h rows lambda delta table l e low ∙ (rw up at (kernel-verdict (entry N rows) n N (h - 1) (each lambda) (each delta) (rw up y) l (omega arith) (rw up k)))
 
 -- The joined kernel is refused by 9 or not at all: number 10 never comes.
-pub join-nine : (n N h : ℕ) (rows lambda delta table : List ℕ) (l : ℕ) → checkLent n N h rows lambda delta table ≡ accepted → suc l < h
-    → joinLent n N h rows lambda delta table l ≡ check9 (level (entry N rows) n N (marks h (each lambda) (each delta)) l) n N (joinedRow n N h rows lambda delta table l) l
+pub join-nine : (n N h : ℕ) (rows lambda delta table : List ℕ) (l : ℕ) → checkLent (ofParts n N h rows lambda delta) table ≡ accepted → suc l < h
+    → joinLent (ofParts n N h rows lambda delta) table l ≡ check9 (level (entry N rows) n N (marks h (each lambda) (each delta)) l) n N (joinedRow (ofParts n N h rows lambda delta) l) l
 join-nine n N h rows lambda delta table l e low =
     let up : suc (h - 1) ≡ h = omega arith in
-    let y = check-accepts n N h rows lambda delta table e .pyramid in
+    let y = check-accepts (ofParts n N h rows lambda delta) table e .pyramid in
     join-verdict n N h rows lambda delta table l e low ∙ (rw up at (nine-alone (entry N rows) n N (h - 1) (each lambda) (each delta) (rw up y) l (omega arith)))

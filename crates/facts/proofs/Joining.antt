@@ -15,7 +15,8 @@ use Rattle.maps.specs.Folded.{On, survives, refusedMarks, marks, level, levelTa
 use Rattle.maps.specs.Pyramid.{Pyramid}
 use Rattle.maps.specs.Check.{check9, checkKernel}
 use Rattle.laws.proofs.Tables.{explicit-same}
-use Rattle.facts.proofs.Levels.{low, high, level-valid, taken, taken-is}
+use Rattle.laws.proofs.MarkRows.{taken, taken-is}
+use Rattle.facts.proofs.Levels.{low, high, taken-in, pyramid-tower, level-floor, level-valid}
 use Rattle.facts.proofs.Agreement.{kernel-same}
 use Rattle.facts.proofs.Adding.{Allowed, removed, never, allowed-cases, cases-allowed}
 use Rattle.facts.proofs.Checks.{check9-whole, sound-kernel}
@@ -23,7 +24,7 @@ use Rattle.maps.specs.Join.{joinΛ, WholeCells}
 use Rattle.facts.proofs.Splits.{Whole}
 use Rattle.facts.proofs.Towers.{inKernel, floor, Tower}
 use Rattle.facts.proofs.TowerJoins.{Falls, stays, falls, falls-at, kernel-lower, on-lower, on-upper, on-raised, on-kept, tower-joins}
-use Rattle.facts.proofs.Pyramids.{taken-in, level-floor, pyramid-tower, tower-pyramid}
+use Rattle.facts.proofs.Pyramids.{tower-pyramid}
 
 -- the survivors and the marks under a join
 module _ (n h : ℕ) (Λ Δ : ℕ → ℕ) (l : ℕ) where
@@ -105,11 +106,11 @@ module _ (a : Involutions) (n N h : ℕ) (Λ Δ : ℕ → ℕ) (y : Pyramid a n 
 
   -- the pyramid as a tower
   tower : Tower a n N (suc h) Λ (low Δ) (high Δ)
-  tower = pyramid-tower a n N (suc h) Λ Δ (y .dimension) (y .allowed) y
+  tower = pyramid-tower a n N (suc h) Λ Δ y
 
   -- its levels are the tower's
   old-floor : (k : ℕ) → k ≤ suc h → (i d : ℕ) → i ≤ n → On N Λ k d → old k i d ≡ floor a (low Δ) (high Δ) N Λ k i d
-  old-floor = level-floor a n N (suc h) Λ Δ (y .dimension) (y .allowed) y
+  old-floor = level-floor a n N (suc h) Λ Δ y
 
   -- the marks of the joined pyramid are allowed
   allowed : (d : ℕ) → d < N → refusedMarks n h (Λ′ d) (Δ d) ≡ false
@@ -143,7 +144,7 @@ module _ (a : Involutions) (n N h : ℕ) (Λ Δ : ℕ → ℕ) (y : Pyramid a n 
       let y′ = tower-pyramid a n N h Λ′ Δ (y .dimension) allowed (J .tower) in
       let down = level-lower a n N h Λ Δ l lh in
       let up : (k : ℕ) → l < k → k ≤ h → (i d : ℕ) → i ≤ n → On N Λ (suc k) d → old (suc k) i d ≡ new k i d = λ k z kh i d li o.
-      old-floor (suc k) (omega arith) i d li o ∙ J .upper k z kh i d li o ∙ sym (level-floor a n N h Λ′ Δ (y .dimension) allowed y′ k kh i d li (on-raised N Λ l k d z o)) in
+      old-floor (suc k) (omega arith) i d li o ∙ J .upper k z kh i d li o ∙ sym (level-floor a n N h Λ′ Δ y′ k kh i d li (on-raised N Λ l k d z o)) in
       record {
         kernel = kernel-same (new l) (old l) n (On N Λ′ l) (On N Λ l) (marks h Λ′ Δ l) (marks h Λ′ Δ l) (level-valid a n N h Λ′ Δ y′ l (omega arith)) (y′ .kernel l lh)
             (λ i d li o. ap (λ (b : Involutions). b i d) (sym (down l (omega arith)))) (λ d o. refl) (λ d o. on-kept N Λ l l d (omega arith) o);

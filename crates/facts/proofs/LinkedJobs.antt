@@ -10,7 +10,7 @@ use lib.ListN.{length}
 use borrow.Author.Tests.{eqb-true, eqb-false, leb-true, leb-false, le-ltb, ltb-false, not-true}
 use Rattle.maps.specs.Verdict.{accepted}
 use Rattle.maps.specs.Table.{entry, each}
-use Rattle.maps.specs.Folded.{On, gone, survives, marks, level}
+use Rattle.maps.specs.Folded.{On, gone, survives, marks, level, ofParts, Folded}
 use Rattle.maps.specs.Cost.{reads}
 use Rattle.maps.specs.Trail.{largest, trail, since, latest}
 use Rattle.maps.specs.CheckPyramid.{checkLent}
@@ -42,7 +42,9 @@ largest-one f (suc m) = go (leb (largest f m) (f m)) refl (largest-one f m)
     go false q (inr r) = let l = leb-false (largest f m) (f m) q in inr (r .0, omega (arith, r .1), omega (arith, r .2))
 
 -- a pyramid that the check has accepted
-module _ (n N h : ℕ) (rows lambda delta table : List ℕ) (e : checkLent n N h rows lambda delta table ≡ accepted) (l : ℕ) (k : l ≤ h) where
+module _ (P : Folded) (table : List ℕ) (e : checkLent P table ≡ accepted) (l : ℕ) (k : l ≤ (P .h)) where
+  open Folded P using (n, N, h, rows, lambda, delta)
+
   abbrev a : ℕ → ℕ → ℕ
   a = entry N rows
 
@@ -53,23 +55,23 @@ module _ (n N h : ℕ) (rows lambda delta table : List ℕ) (e : checkLent n N h
   Δ = each delta
 
   -- a reading's level is the lowest on which the dart already has this neighbour: from it up to the level asked the neighbour is the same, below it another
-  pub accepted-since : (i d : ℕ) → i ≤ n → On N Λ l d → (readSince n N h rows lambda delta l i d ≡ since a N Λ Δ l i d) × Since a n N h Λ Δ l i d
+  pub accepted-since : (i d : ℕ) → i ≤ n → On N Λ l d → (readSince P l i d ≡ since a N Λ Δ l i d) × Since a n N h Λ Δ l i d
   unfolding readSince
-  accepted-since i d li o = (rw (accepted-read n N h rows lambda delta table e l k i d li o), stands-since a n N h Λ Δ (accepted-pyramid n N h rows lambda delta table e) l k i d li o)
+  accepted-since i d li o = (rw (accepted-read P table e l k i d li o), stands-since a n N h Λ Δ (accepted-pyramid P table e) l k i d li o)
 
   -- the darts passed are one fewer than the entries read
-  pub accepted-trail : (i d : ℕ) → i ≤ n → On N Λ l d → readLent n N h rows lambda delta l i d ≡ found (level a n N (marks h Λ Δ) l i d) (suc (length (trail a N Λ Δ l i d)))
+  pub accepted-trail : (i d : ℕ) → i ≤ n → On N Λ l d → readLent P l i d ≡ found (level a n N (marks h Λ Δ) l i d) (suc (length (trail a N Λ Δ l i d)))
   accepted-trail i d li o =
-      let y = accepted-pyramid n N h rows lambda delta table e in
+      let y = accepted-pyramid P table e in
       let w = walk-trail a n N h Λ Δ y l k i d li o in
-      let f = accepted-facts n N h rows lambda delta table e l k .ends i d li o in
+      let f = accepted-facts P table e l k .ends i d li o in
       let c : reads a n N h Λ Δ l i d ≡ suc (length (trail a N Λ Δ l i d)) = cc (sym f ∙ w) in
-      accepted-read n N h rows lambda delta table e l k i d li o ∙ ap (found (level a n N (marks h Λ Δ) l i d)) c
+      accepted-read P table e l k i d li o ∙ ap (found (level a n N (marks h Λ Δ) l i d)) c
 
   -- an unfolding's is the largest of its readings'
-  pub accepted-latest : unfoldSince n N h rows lambda delta l table ≡ latest a N Λ Δ l n
+  pub accepted-latest : unfoldSince P l table ≡ latest a N Λ Δ l n
   unfolding unfoldSince
-  accepted-latest = rw (accepted-unfold n N h rows lambda delta table e l k)
+  accepted-latest = rw (accepted-unfold P table e l k)
 
   pub latest-most : (i d : ℕ) → i ≤ n → On N Λ l d → since a N Λ Δ l i d ≤ latest a N Λ Δ l n
   unfolding latest
@@ -104,15 +106,15 @@ module _ (n N h : ℕ) (rows lambda delta table : List ℕ) (e : checkLent n N h
   pub record BothEnds (i d : ℕ) : Type 0 where
     pub other : ℕ
     pub count : ℕ
-    pub there : readLent n N h rows lambda delta l i d ≡ found other count
-    pub back : readLent n N h rows lambda delta l i other ≡ found d count
-    pub same-since : readSince n N h rows lambda delta l i other ≡ readSince n N h rows lambda delta l i d
+    pub there : readLent P l i d ≡ found other count
+    pub back : readLent P l i other ≡ found d count
+    pub same-since : readSince P l i other ≡ readSince P l i d
     pub reversed : trail a N Λ Δ l i other ≡ reverse (trail a N Λ Δ l i d)
     pub counted : count ≡ suc (length (trail a N Λ Δ l i d))
 
   pub accepted-both-ends : (i d : ℕ) → i ≤ n → On N Λ l d → BothEnds i d
   accepted-both-ends i d li o =
-      let y = accepted-pyramid n N h rows lambda delta table e in
+      let y = accepted-pyramid P table e in
       let s = both-ends a n N h Λ Δ y l k i d li o in
       let other : ℕ = level a n N (marks h Λ Δ) l i d in
       let there-on : On N Λ l other = level-valid a n N h Λ Δ y l k .inside i d li o in

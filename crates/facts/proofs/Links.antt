@@ -11,16 +11,15 @@ use Rattle.maps.specs.Walk.{ended, walk}
 use Rattle.maps.specs.Pyramid.{Pyramid}
 use Rattle.laws.proofs.Counting.{count-le}
 use Rattle.facts.proofs.Runs.{swap, Run}
-use Rattle.facts.proofs.Levels.{low, high, level-valid}
+use Rattle.facts.proofs.Levels.{low, high, pyramid-tower, level-floor, level-valid}
 use Rattle.facts.proofs.Readings.{run-walk}
 use Rattle.maps.specs.Trail.{sinceOf, trailFrom, trail, since}
 use Rattle.facts.proofs.Trails.{darts, length-darts}
 use Rattle.facts.proofs.Towers.{floor, Tower, tower-ground}
 use Rattle.facts.proofs.TowerLinks.{Link, link}
-use Rattle.facts.proofs.Pyramids.{level-floor, pyramid-tower}
 
 -- a run's darts are the trail of the walk
-trail-run : (a : Involutions) (N : ℕ) (Λ Δ : ℕ → ℕ) (l p k t d u e : ℕ) → p < k → Run a (low Δ) (high Δ) (gone Λ l) p t d u e → trailFrom a N Λ Δ l k t d ≡ darts a (low Δ) (high Δ) (gone Λ l) p t d
+pub trail-run : (a : Involutions) (N : ℕ) (Λ Δ : ℕ → ℕ) (l p k t d u e : ℕ) → p < k → Run a (low Δ) (high Δ) (gone Λ l) p t d u e → trailFrom a N Λ Δ l k t d ≡ darts a (low Δ) (high Δ) (gone Λ l) p t d
 unfolding trailFrom darts swap
 trail-run a N Λ Δ l p zero t d u e f r = absurd (omega arith)
 trail-run a N Λ Δ l zero (suc k) t d u e f r = rw (ap (gone Λ l) (sym (r .0 .1)) ∙ r .1, trailFrom)
@@ -45,7 +44,7 @@ pub record Story (a : Involutions) (n N h : ℕ) (Λ Δ : ℕ → ℕ) (l i b e 
 module _ (a : Involutions) (n N h : ℕ) (Λ Δ : ℕ → ℕ) (y : Pyramid a n N h Λ Δ) (l : ℕ) (k : l ≤ h) (i b : ℕ) (li : i ≤ n) (o : On N Λ l b) where
   -- the pyramid as a tower
   tower : Tower a n N h Λ (low Δ) (high Δ)
-  tower = pyramid-tower a n N h Λ Δ (y .dimension) (y .allowed) y
+  tower = pyramid-tower a n N h Λ Δ y
 
   -- how many darts the walk passes
   passes : ℕ
@@ -66,7 +65,7 @@ module _ (a : Involutions) (n N h : ℕ) (Λ Δ : ℕ → ℕ) (y : Pyramid a n 
 
   -- that is the level's neighbour
   level-end : (m : ℕ) → m ≤ l → level a n N (marks h Λ Δ) m i b ≡ floor a (low Δ) (high Δ) N Λ m i b
-  level-end m z = level-floor a n N h Λ Δ (y .dimension) (y .allowed) y m (omega arith) i b li (o .0, omega (arith, o .1))
+  level-end m z = level-floor a n N h Λ Δ y m (omega arith) i b li (o .0, omega (arith, o .1))
 
   -- it passes few enough darts for 1 + 2N reads
   fits : passes < 1 + 2 * N

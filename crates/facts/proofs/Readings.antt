@@ -5,16 +5,17 @@ use mathlib.Core.Bool.{true, false, or-true}
 use Prim.Native.Nat.{ℕ, zero, suc, _+_, _*_, _≤_, _<_}
 use native.Mathlib.Omega.{arith}
 use lib.Dec.{eqb}
-use borrow.Author.Tests.{ltb-true, lt-ltb, le-ltb, eq-eqb}
+use borrow.Author.Tests.{lt-ltb, eq-eqb}
 use Rattle.maps.specs.Map.{Involutions}
-use Rattle.maps.specs.Mark.{isMark, canPass, across}
+use Rattle.maps.specs.Mark.{canPass, across}
 use Rattle.maps.specs.Folded.{On, gone, refusedMarks, removedBelow}
 use Rattle.maps.specs.Walk.{ended, walkFrom, walk}
 use Rattle.maps.specs.Pyramid.{Pyramid}
 use Rattle.laws.proofs.Counting.{count-le}
-use Rattle.facts.proofs.Runs.{swap, Run, Ground, turn-le, short}
-use Rattle.laws.proofs.Marks.{mark-rows}
-use Rattle.facts.proofs.Levels.{low, high, Level, course, allowed-small}
+use Rattle.facts.proofs.Runs.{swap, Run, Ground, turn-le}
+use Rattle.facts.proofs.Levels.{low, high, Level, pyramid-tower, level-floor}
+use Rattle.facts.proofs.Towers.{floor, tower-ground}
+use Rattle.facts.proofs.TowerFacts.{FactsOf, tower-facts}
 
 pub can-pass : (Δ : ℕ → ℕ) (d t : ℕ) → (t ≡ low Δ d) ⊎ (t ≡ high Δ d) → canPass (Δ d) t ≡ true
 can-pass Δ d t (inl e) = rw (eq-eqb t (low Δ d) e)
@@ -41,15 +42,11 @@ module _ (a : Involutions) (n N h : ℕ) (Λ Δ : ℕ → ℕ) (l i b : ℕ) (g 
 module _ (a : Involutions) (n N h : ℕ) (Λ Δ : ℕ → ℕ) (y : Pyramid a n N h Λ Δ) where
   -- the base is ground for the direct walks of level l
   pub base-ground : (l : ℕ) → l ≤ h → Ground a (low Δ) (high Δ) (gone Λ l) n (λ d. d < N)
-  base-ground l k = record {
-    inside = y .base .inside;
-    twice = y .base .twice;
-    low = λ d ld q. mark-rows n (Δ d) (is-mark d ld q) .first;
-    high = λ d ld q. mark-rows n (Δ d) (is-mark d ld q) .second;
-  }
-    where
-      is-mark : (d : ℕ) → d < N → gone Λ l d ≡ true → isMark n (Δ d) ≡ true
-      is-mark d ld q = allowed-small n h Λ Δ d (y .allowed d ld) (omega (arith, ltb-true (Λ d) l q))
+  base-ground = tower-ground a n N h Λ (low Δ) (high Δ) (pyramid-tower a n N h Λ Δ y)
+
+  -- the facts of its tower
+  abbrev pub own : (l : ℕ) → l ≤ h → FactsOf a n N Λ (low Δ) (high Δ) l
+  own = tower-facts a n N Λ (low Δ) (high Δ) h (pyramid-tower a n N h Λ Δ y)
 
   -- the walk of dart b of level l by involution i: the darts that it passes, and that it is short
   pub record Walks (l i b : ℕ) : Type 0 where
@@ -58,13 +55,19 @@ module _ (a : Involutions) (n N h : ℕ) (Λ Δ : ℕ → ℕ) (y : Pyramid a n 
     pub few : passes ≤ 2 * removedBelow N Λ l
     pub reads : walk a n N h Λ Δ l i b ≡ ended i (Level a n N h Λ Δ y l i b) (suc passes)
 
-  pub walks : (l : ℕ) → l ≤ h → (i b : ℕ) → i ≤ n → On N Λ l b → Walks l i b
-  unfolding walk
-  walks l k i b li o =
-      let r = course a n N h Λ Δ y l k i b li o in
-      let e = Level a n N h Λ Δ y l i b in
-      let g = base-ground l k in
-      let s = short a (low Δ) (high Δ) (gone Λ l) n (λ d. d < N) g N (λ d z. z) (r .0) i b i e li (o .0) (le-ltb (Λ b) l (o .1)) (r .1 .0) in
-      let f : r .0 < 1 + 2 * N = omega (arith, s, count-le (gone Λ l) N) in
-      let z : 0 + suc (r .0) ≡ suc (r .0) = omega arith in
-      record { passes = r .0; run = r .1; few = s; reads = run-walk a n N h Λ Δ l i b g (y .allowed) (r .0) (1 + 2 * N) i b i e 0 f li (o .0) (r .1) ∙ ap (ended i e) z }
+  module _ (l : ℕ) (k : l ≤ h) (i b : ℕ) (li : i ≤ n) (o : On N Λ l b) where
+    -- the direct walk runs the tower's course
+    pub walk-course : walk a n N h Λ Δ l i b ≡ ended i (floor a (low Δ) (high Δ) N Λ l i b) (suc (own l k .course i b li o .passes))
+    unfolding walk
+    walk-course =
+        let w = own l k .course i b li o in
+        let e = floor a (low Δ) (high Δ) N Λ l i b in
+        let f : w .passes < 1 + 2 * N = omega (arith, own l k .few i b li o, count-le (gone Λ l) N) in
+        let z : 0 + suc (w .passes) ≡ suc (w .passes) = omega arith in
+        run-walk a n N h Λ Δ l i b (base-ground l k) (y .allowed) (w .passes) (1 + 2 * N) i b i e 0 f li (o .0) (w .run) ∙ ap (ended i e) z
+
+    pub walks : Walks l i b
+    walks =
+        let w = own l k .course i b li o in
+        let e = level-floor a n N h Λ Δ y l k i b li o in
+        record { passes = w .passes; run = rw e (w .run); few = own l k .few i b li o; reads = rw e walk-course }

@@ -202,6 +202,7 @@ module _ (a : Involutions) (n : ℕ) (present : ℕ → Type 0) (m : Valid a n p
       pub fits : passes ≤ 2 * count removed N
       pub is-present : present (without a dim via removed N i b)
       pub half : ℕ
+      pub halved : passes ≡ 2 * half
       pub half-le : half ≤ N
       pub by-two : Pairs a dim via removed half i b (without a dim via removed N i b)
 
@@ -212,7 +213,7 @@ module _ (a : Involutions) (n : ℕ) (present : ℕ → Type 0) (m : Valid a n p
         let r = walk-ends i l N bound b h j in
         let v = pairs i l (r .passes) b i (r .dart) (begin h j refl) (r .run) in
         let e = along-pairs a dim via removed (v .0) N i b (r .dart) (omega (arith, r .fits, count-le removed N, v .1)) (v .2) in
-        record { passes = r .passes; run = rw e (r .run); fits = r .fits; is-present = rw e (r .is-present); half = v .0; half-le = omega (arith, r .fits, count-le removed N, v .1); by-two = rw e (v .2) }
+        record { passes = r .passes; run = rw e (r .run); fits = r .fits; is-present = rw e (r .is-present); half = v .0; halved = v .1; half-le = omega (arith, r .fits, count-le removed N, v .1); by-two = rw e (v .2) }
 
     -- any run from a survivor by row i leads there
     pub without-run : (i b p u e : ℕ) → i ≤ n → present b → removed b ≡ false → Run a dim via removed p i b u e → without a dim via removed N i b ≡ e

@@ -5,7 +5,7 @@ use mathlib.Core.Bool.{Bool, true, false, _||_, or-comm, or-true}
 use Prim.Native.Nat.{ℕ, _≤_, _<_}
 use Rattle.maps.specs.Map.{Involutions, Valid}
 use Rattle.facts.proofs.Removals.{far-ne, Passing, without, without-valid, without-run, without-stays, led, ground}
-use Rattle.facts.proofs.Levels.{string}
+use Rattle.facts.proofs.Strings.{string}
 
 -- the darts of either kernel
 abbrev pub either : (ℕ → Bool) → (ℕ → Bool) → ℕ → Bool

@@ -6,10 +6,11 @@ use native.Mathlib.Omega.{arith}
 use borrow.Author.Tests.{ltb-false, le-ltb}
 use Rattle.maps.specs.Map.{Involutions}
 use Rattle.maps.specs.Folded.{On, gone, removedBelow}
-use Rattle.facts.proofs.Runs.{Run, unique, rev, short}
+use Rattle.facts.proofs.Runs.{Run, unique, rev}
 use Rattle.maps.specs.Trail.{sinceOf}
 use Rattle.facts.proofs.Trails.{darts, darts-back, since-reverse, thin, thick}
-use Rattle.facts.proofs.Towers.{floor, Tower, tower-ground, tower-course}
+use Rattle.facts.proofs.Towers.{floor, Tower, tower-ground}
+use Rattle.facts.proofs.TowerFacts.{tower-facts}
 
 -- The link of dart b by row i on level l. `since` is one more than the largest Λ passed, or 0 if no dart was passed.
 pub record Link (a : Involutions) (N : ℕ) (Λ dim via : ℕ → ℕ) (l i b since passes : ℕ) : Type 0 where
@@ -37,24 +38,24 @@ module _ (a : Involutions) (n N h : ℕ) (Λ dim via : ℕ → ℕ) (t : Tower a
     same-from m x lm =
         let le = ltb-false (Λ (neighbour l)) l (r .1) in
         let s : Run a dim via (gone Λ m) p i b i (neighbour l) = (thin a dim via Λ l m p i b i (neighbour l) (r .0) x, le-ltb (Λ (neighbour l)) m (omega arith)) in
-        let w = tower-course a n N h Λ dim via t m (omega arith) i b li (o .0, omega (arith, o .1)) in
-        unique a dim via (gone Λ m) (w .0) p i b i (neighbour m) i (neighbour l) (w .1) s .2
+        let w = tower-facts a n N Λ dim via h t m (omega arith) .course i b li (o .0, omega (arith, o .1)) in
+        unique a dim via (gone Λ m) (w .passes) p i b i (neighbour m) i (neighbour l) (w .run) s .2
 
     -- below since a walk that ends at the same dart would pass the same darts, and one of them is not yet gone
     other-below : (m : ℕ) → m ≤ l → m < sinceOf Λ (darts a dim via (gone Λ l) p i b) → neighbour m ≡ neighbour l → ⊥
     other-below m lm x q =
-        let w = tower-course a n N h Λ dim via t m (omega arith) i b li (o .0, omega (arith, o .1)) in
-        let y = thick a dim via Λ l m (w .0) i b i (neighbour l) lm (rw q at (w .1 .0)) in
-        let u = unique a dim via (gone Λ l) (w .0) p i b i (neighbour l) i (neighbour l) (y .0, r .1) r in
+        let w = tower-facts a n N Λ dim via h t m (omega arith) .course i b li (o .0, omega (arith, o .1)) in
+        let y = thick a dim via Λ l m (w .passes) i b i (neighbour l) lm (rw q at (w .run .0)) in
+        let u = unique a dim via (gone Λ l) (w .passes) p i b i (neighbour l) i (neighbour l) (y .0, r .1) r in
         let z : sinceOf Λ (darts a dim via (gone Λ l) p i b) ≤ m = rw (u .0) at (y .1) in
         omega arith
 
   -- every link of a tower
   pub link : (p : ℕ) × Link a N Λ dim via l i b (sinceOf Λ (darts a dim via (gone Λ l) p i b)) p
   link =
-      let w = tower-course a n N h Λ dim via t l k i b li o in
-      let p = w .0 in
-      let r = w .1 in
+      let F = tower-facts a n N Λ dim via h t l k in
+      let p = F .course i b li o .passes in
+      let r = F .course i b li o .run in
       let g = tower-ground a n N h Λ dim via t l k in
       let q = le-ltb (Λ b) l (o .1) in
       let z = thick a dim via Λ l l p i b i (neighbour l) (omega arith) (r .0) .1 in
@@ -62,7 +63,7 @@ module _ (a : Involutions) (n N h : ℕ) (Λ dim via : ℕ → ℕ) (t : Tower a
         p,
         record {
           there = r;
-          few = short a dim via (gone Λ l) n (λ d. d < N) g N (λ d x. x) p i b i (neighbour l) li (o .0) q (r .0);
+          few = F .few i b li o;
           at-most = z;
           same = same-from p r;
           other = λ m x. other-below p r m (omega arith) x;

@@ -4,12 +4,12 @@ use mathlib.Core.Bool.{Bool, true, false}
 use Prim.Native.Nat.{ℕ, zero, suc, _≤_, _<_}
 use native.Mathlib.Omega.{arith}
 use lib.Dec.{eqb}
-use borrow.Author.Tests.{eqb-true, eqb-false, eq-eqb, ne-eqb, ltb-true, lt-ltb, le-ltb}
+use borrow.Author.Count.{below-more}
+use borrow.Author.Tests.{eqb-true, eqb-false, eq-eqb, ne-eqb, ltb-true, lt-ltb}
 use Rattle.maps.specs.Map.{Involutions, Valid}
 use Rattle.maps.specs.Folded.{On, gone}
-use Rattle.facts.proofs.Runs.{Run, Ground}
-use Rattle.facts.proofs.Removals.{Passing, without, without-valid, led, ground}
-use Rattle.facts.proofs.Levels.{string}
+use Rattle.facts.proofs.Runs.{Ground}
+use Rattle.facts.proofs.Removals.{Passing, without, without-valid}
 
 -- is d in kernel l
 abbrev pub inKernel : (ℕ → ℕ) → ℕ → ℕ → Bool
@@ -34,6 +34,27 @@ module _ (N : ℕ) (Λ : ℕ → ℕ) (l d : ℕ) where
   pub on-above : On N Λ l d × (inKernel Λ l d ≡ false) → On N Λ (suc l) d
   on-above p = let ne : Λ d ≡ l → ⊥ = eqb-false (Λ d) l (p .1) in (p .0 .0, omega (arith, p .0 .1))
 
+-- what is gone stays gone
+module _ (Λ : ℕ → ℕ) (l d : ℕ) where
+  pub gone-suc : gone Λ l d ≡ true → gone Λ (suc l) d ≡ true
+  gone-suc q = lt-ltb (Λ d) (suc l) (omega (arith, ltb-true (Λ d) l q))
+
+  -- kernel l is gone on level l+1
+  pub gone-kernel : inKernel Λ l d ≡ true → gone Λ (suc l) d ≡ true
+  gone-kernel q = lt-ltb (Λ d) (suc l) (omega (arith, eqb-true (Λ d) l q))
+
+-- A tower is built from below: each kernel may be shown from the tower up to its level.
+module _ (a : Involutions) (n N : ℕ) (Λ dim via : ℕ → ℕ) (v : Valid a n (λ d. d < N)) where
+  -- walks can pass kernel l of level l
+  abbrev Passes : ℕ → Type 0
+  Passes l = Passing (floor a dim via N Λ l) n (On N Λ l) dim via (inKernel Λ l)
+
+  pub tower-of : (h : ℕ) → ((l : ℕ) → l < h → Tower a n N l Λ dim via → Passing (floor a dim via N Λ l) n (On N Λ l) dim via (inKernel Λ l)) → Tower a n N h Λ dim via
+  tower-of zero new = record { base = v; kernel = λ l f. absurd (omega arith) }
+  tower-of (suc h) new =
+      let t = tower-of h (λ l f. new l (omega arith)) in
+      record { base = v; kernel = λ l f. below-more Passes h (t .kernel) (new h (omega arith) t) l (omega arith) }
+
 module _ (a : Involutions) (n N h : ℕ) (Λ dim via : ℕ → ℕ) (t : Tower a n N h Λ dim via) where
   -- every level is a valid map on exactly its survivors
   pub tower-valid : (l : ℕ) → l ≤ h → Valid (floor a dim via N Λ l) n (On N Λ l)
@@ -56,29 +77,3 @@ module _ (a : Involutions) (n N h : ℕ) (Λ dim via : ℕ → ℕ) (t : Tower a
     low = λ d ld q. let z = ltb-true (Λ d) l q in t .kernel (Λ d) (omega arith) .low d (ld, omega arith) (eq-eqb (Λ d) (Λ d) refl);
     high = λ d ld q. let z = ltb-true (Λ d) l q in t .kernel (Λ d) (omega arith) .high d (ld, omega arith) (eq-eqb (Λ d) (Λ d) refl);
   }
-
-  -- what is gone stays gone
-  pub gone-suc : (l d : ℕ) → gone Λ l d ≡ true → gone Λ (suc l) d ≡ true
-  gone-suc l d q = lt-ltb (Λ d) (suc l) (omega (arith, ltb-true (Λ d) l q))
-
-  -- kernel l is gone on level l+1
-  pub gone-kernel : (l d : ℕ) → inKernel Λ l d ≡ true → gone Λ (suc l) d ≡ true
-  gone-kernel l d q = lt-ltb (Λ d) (suc l) (omega (arith, eqb-true (Λ d) l q))
-
-  -- the rest of level l is not
-  pub gone-not : (l d : ℕ) → On N Λ l d → inKernel Λ l d ≡ false → gone Λ (suc l) d ≡ false
-  gone-not l d o q = le-ltb (Λ d) (suc l) (omega (arith, on-above N Λ l d (o, q) .1))
-
-  -- the direct walk of a dart of level l by row i ends, by row i, at the dart's neighbour on level l
-  pub tower-course : (l : ℕ) → l ≤ h → (i d : ℕ) → i ≤ n → On N Λ l d → (p : ℕ) × Run a dim via (gone Λ l) p i d i (floor a dim via N Λ l i d)
-  unfolding floor
-  tower-course zero k i d li o = (zero, ((refl, refl), le-ltb (Λ (a i d)) zero (omega arith)))
-  tower-course (suc l) k i d li o =
-      let A = floor a dim via N Λ l in
-      let v = tower-valid l (omega arith) in
-      let x = on-below N Λ l d o in
-      let w = led A n (On N Λ l) v dim via (inKernel Λ l) (t .kernel l k) N (λ e z. z .0) i d li (x .0) (x .1) in
-      let s =
-      string a A dim via (gone Λ l) (inKernel Λ l) (gone Λ (suc l)) n (On N Λ l) (ground A n (On N Λ l) v dim via (inKernel Λ l) (t .kernel l k)) (gone-suc l) (gone-kernel l) (gone-not l) (tower-course l (omega arith))
-      (w .passes) i d i (without A dim via (inKernel Λ l) N i d) li (x .0) (w .run) in
-      (s .0, s .2)

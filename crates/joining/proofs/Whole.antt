@@ -8,7 +8,7 @@ use lib.Dec.{eqb, leb}
 use borrow.Author.Tests.{lt-leb}
 use Rattle.maps.specs.Verdict.{Verdict, accepted, refused, when, _then_}
 use Rattle.maps.specs.Table.{entry, each, listed}
-use Rattle.maps.specs.Folded.{survives, marks, level}
+use Rattle.maps.specs.Folded.{survives, marks, level, ofParts}
 use Rattle.maps.specs.CheckPyramid.{leftBehind, checkLent, tableAt, checkLeaves}
 use Rattle.maps.specs.Join.{joinΛ, joinLent, joinHeight, joinLambda, joinLeaves}
 use Rattle.laws.proofs.Tables.{length-explicit}
@@ -33,13 +33,13 @@ left-twice top levels found (refused number level involution dart) = go (eqb num
 module _ (n N h : ℕ) (rows lambda delta table : List ℕ) (l : ℕ) where
   -- the check's verdict, the joined kernel's, and the job's
   abbrev check : Verdict
-  check = checkLent n N h rows lambda delta table
+  check = checkLent (ofParts n N h rows lambda delta) table
 
   abbrev kernel : Verdict
   kernel = joinedVerdict n N h rows lambda delta l
 
   abbrev job : Verdict
-  job = joinLent n N h rows lambda delta table l
+  job = joinLent (ofParts n N h rows lambda delta) table l
 
   tests : job ≡ (check then (when (leb h (suc l)) (refused 11 l 0 0) then kernel))
   unfolding joinLent
@@ -47,19 +47,19 @@ module _ (n N h : ℕ) (rows lambda delta table : List ℕ) (l : ℕ) where
 
   -- the explicit levels
   abbrev levels : ℕ → List ℕ
-  levels = tableAt n N h rows lambda delta table
+  levels = tableAt (ofParts n N h rows lambda delta)
 
   -- answer, height, Λ and table
   abbrev Leaves : Verdict → ℕ → List ℕ → List ℕ → Type 0
   Leaves v height lambda′ after =
-      (v ≡ job) × ((height ≡ joinHeight n N h rows lambda delta table l) × ((lambda′ ≡ joinLambda n N h rows lambda delta table l) × (after ≡ joinLeaves n N h rows lambda delta table l)))
+      (v ≡ job) × ((height ≡ joinHeight (ofParts n N h rows lambda delta) table l) × ((lambda′ ≡ joinLambda (ofParts n N h rows lambda delta) table l) × (after ≡ joinLeaves (ofParts n N h rows lambda delta) table l)))
 
-  not-joined : (r : Refusal) → refusalOf r ≡ job → {after : List ℕ} → after ≡ joinLeaves n N h rows lambda delta table l → Leaves (refusalOf r) h lambda after
+  not-joined : (r : Refusal) → refusalOf r ≡ job → {after : List ℕ} → after ≡ joinLeaves (ofParts n N h rows lambda delta) table l → Leaves (refusalOf r) h lambda after
   unfolding joinHeight joinLambda
   not-joined r e leaves = (e, (refusal-keeps r job (h - 1) h e, (refusal-keeps r job (listed (joinΛ l (each lambda)) N) lambda e, leaves)))
 
   -- what the check refuses
-  pub check-refused : (r : Refusal) → refusalOf r ≡ check → {after : List ℕ} → after ≡ checkLeaves n N h rows lambda delta table → Leaves (refusalOf r) h lambda after
+  pub check-refused : (r : Refusal) → refusalOf r ≡ check → {after : List ℕ} → after ≡ checkLeaves (ofParts n N h rows lambda delta) table → Leaves (refusalOf r) h lambda after
   unfolding checkLeaves joinLeaves
   check-refused r e leaves =
       let same : refusalOf r ≡ job = refused-first job check (when (leb h (suc l)) (refused 11 l 0 0) then kernel) tests r e in
@@ -67,13 +67,13 @@ module _ (n N h : ℕ) (rows lambda delta table : List ℕ) (l : ℕ) where
 
   module _ (e : accepted ≡ check) where
     -- the table is as long as the rows
-    pub table-long : length (checkLeaves n N h rows lambda delta table) ≡ length rows
+    pub table-long : length (checkLeaves (ofParts n N h rows lambda delta) table) ≡ length rows
     table-long =
-        ap length (accepted-table n N h rows lambda delta table (sym e))
-        ∙ length-explicit (level (entry N rows) n N (marks h (each lambda) (each delta)) h) n N (survives (each lambda) h) ∙ sym (check-accepts n N h rows lambda delta table (sym e) .rows-length)
+        ap length (accepted-table (ofParts n N h rows lambda delta) table (sym e))
+        ∙ length-explicit (level (entry N rows) n N (marks h (each lambda) (each delta)) h) n N (survives (each lambda) h) ∙ sym (check-accepts (ofParts n N h rows lambda delta) table (sym e) .rows-length)
 
     -- two kernels are not there
-    pub no-two : (r : Refusal) → refusalOf r ≡ refused 11 l 0 0 → leb h (suc l) ≡ true → {after : List ℕ} → after ≡ checkLeaves n N h rows lambda delta table → Leaves (refusalOf r) h lambda after
+    pub no-two : (r : Refusal) → refusalOf r ≡ refused 11 l 0 0 → leb h (suc l) ≡ true → {after : List ℕ} → after ≡ checkLeaves (ofParts n N h rows lambda delta) table → Leaves (refusalOf r) h lambda after
     unfolding leftBehind joinLeaves
     no-two r is high leaves =
         let same : job ≡ refused 11 l 0 0 = tests ∙ rw (← e, high) in
@@ -82,17 +82,17 @@ module _ (n N h : ℕ) (rows lambda delta table : List ℕ) (l : ℕ) where
     module _ (low : suc l < h) where
       pub checked : Checked n N h rows lambda delta l
       checked =
-          let p = check-accepts n N h rows lambda delta table (sym e) in
+          let p = check-accepts (ofParts n N h rows lambda delta) table (sym e) in
           record { dimension = p .dimension .1; darts = p .darts .1; height = p .height; rows-long = p .rows-length; lambda-long = p .lambda-length; delta-long = p .delta-length; pyramid = p .pyramid; pair = low }
 
       job-is : job ≡ kernel
       job-is = tests ∙ rw (← e, lt-leb h (suc l) low)
 
-      leaves-is : joinedLeaves n N h rows lambda delta l ≡ joinLeaves n N h rows lambda delta table l
+      leaves-is : joinedLeaves n N h rows lambda delta l ≡ joinLeaves (ofParts n N h rows lambda delta) table l
       unfolding joinLeaves
       leaves-is =
-          sym (late-leaves (levels h) levels (checkLeaves n N h rows lambda delta table) l kernel (kernel-late (level (entry N rows) n N (marks h (each lambda) (each delta)) l) n N (marks (h - 1) (joinΛ l (each lambda)) (each delta) l) l))
-          ∙ ap (leftBehind (levels h) levels (checkLeaves n N h rows lambda delta table)) (sym job-is)
+          sym (late-leaves (levels h) levels (checkLeaves (ofParts n N h rows lambda delta) table) l kernel (kernel-late (level (entry N rows) n N (marks h (each lambda) (each delta)) l) n N (marks (h - 1) (joinΛ l (each lambda)) (each delta) l) l))
+          ∙ ap (leftBehind (levels h) levels (checkLeaves (ofParts n N h rows lambda delta) table)) (sym job-is)
 
       -- the joined kernel is refused
       pub kernel-refused : (r : Refusal) → refusalOf r ≡ kernel → {after : List ℕ} → after ≡ joinedLeaves n N h rows lambda delta l → Leaves (refusalOf r) h lambda after

@@ -3,6 +3,7 @@ use answers::Check;
 use answers::Dim;
 use answers::Level;
 use answers::Refusal;
+use answers::Sizes;
 ghost use mathlib.Core.Path.{_≡_};
 ghost use mathlib.Core.Bool.{cond};
 ghost use Prim.Native.Nat.{suc, _-_, _<_};
@@ -10,6 +11,7 @@ ghost use lib.ListN.{length};
 ghost use lib.Dec.{leb, ltb};
 ghost use Rattle.maps.specs.Table.{each, listed};
 ghost use Rattle.maps.specs.Join.{joinΛ, joinLent, joinHeight, joinLambda, joinLeaves};
+ghost use Rattle.answers.specs.Pyramid.{given};
 ghost use Rattle.answers.specs.Numbers.{verdictOf};
 ghost use Rattle.joining.specs.Answers.{joinedOf, heightOf};
 ghost use Rattle.joining.specs.Climbed.{Checked, joinedVerdict, joinedLeaves};
@@ -94,12 +96,12 @@ pub fn join(
     table: &mut [u16],
     level: Level,
 ) -> Joined
-    ensures answer { λ r. ⌜ joinedOf r ≡ joinLent (n .0) darts (h .0) (now (rows .entry)) (now (lambda .entry)) (now (delta .entry)) (now (table .entry)) (level .0) ⌝ }
-    ensures height { λ r. ⌜ heightOf (h .0) r ≡ joinHeight (n .0) darts (h .0) (now (rows .entry)) (now (lambda .entry)) (now (delta .entry)) (now (table .entry)) (level .0) ⌝ }
-    ensures lambda_left { λ _. ⌜ now (lambda .exit) ≡ joinLambda (n .0) darts (h .0) (now (rows .entry)) (now (lambda .entry)) (now (delta .entry)) (now (table .entry)) (level .0) ⌝ }
-    ensures table_left { λ _. ⌜ now (table .exit) ≡ joinLeaves (n .0) darts (h .0) (now (rows .entry)) (now (lambda .entry)) (now (delta .entry)) (now (table .entry)) (level .0) ⌝ }
+    ensures answer { λ r. ⌜ joinedOf r ≡ joinLent (given (n .0) darts (h .0) (rows .entry) (lambda .entry) (delta .entry)) (now (table .entry)) (level .0) ⌝ }
+    ensures height { λ r. ⌜ heightOf (h .0) r ≡ joinHeight (given (n .0) darts (h .0) (rows .entry) (lambda .entry) (delta .entry)) (now (table .entry)) (level .0) ⌝ }
+    ensures lambda_left { λ _. ⌜ now (lambda .exit) ≡ joinLambda (given (n .0) darts (h .0) (rows .entry) (lambda .entry) (delta .entry)) (now (table .entry)) (level .0) ⌝ }
+    ensures table_left { λ _. ⌜ now (table .exit) ≡ joinLeaves (given (n .0) darts (h .0) (rows .entry) (lambda .entry) (delta .entry)) (now (table .entry)) (level .0) ⌝ }
 {
-    if let Check::Refused(r) = checking::check(n, darts, h, rows, lambda, delta, table) {
+    if let Check::Refused(r) = checking::check(Sizes { n, h, darts }, rows, lambda, delta, table) {
         return Joined::Refused(r);
     }
     if no_pair(h, level) {

@@ -5,3 +5,4 @@ mod Clearing
 mod Links
 mod Relinks
 mod Steps
+pub mod Turns

@@ -9,21 +9,20 @@ use lib.ListN.{length, set}
 use lib.Dec.{eqb, ltb}
 use borrow.Author.Tests.{eqb-true, eqb-false, eq-eqb, ne-eqb, ltb-true, ltb-false, lt-ltb, le-ltb}
 use Rattle.maps.specs.Map.{Involutions, Valid}
-use Rattle.maps.specs.Count.{one}
 use Rattle.maps.specs.Mark.{isMark, stay, between}
-use Rattle.maps.specs.Removal.{marked, goOn, removal}
+use Rattle.maps.specs.Removal.{marked, goOn, turnsFrom, removal}
 use Rattle.maps.specs.Table.{entry, each, absent}
 use Rattle.maps.specs.CheckBase.{present}
 use Rattle.laws.proofs.Verdicts.{and-both}
 use Rattle.laws.proofs.Marks.{mark-byte, mark-rows}
 use Rattle.laws.proofs.Tables.{explicit-of}
-use Rattle.facts.proofs.Checks.{There}
+use Rattle.maps.specs.Explicit.{There}
 use Rattle.facts.proofs.Kernels.{removal-valid}
-use Rattle.facts.proofs.Agreement.{goOn-local}
+use Rattle.facts.proofs.Agreement.{goOn-local, turns-local}
 use Rattle.kernels.specs.Strings.{kernelRow, First, Along, Marks}
 use Rattle.kernels.specs.Ready.{Place, Ready, Followed, left, relinked, firstOfLink, TableIs, Cleared, removedFrom}
 use Rattle.kernels.proofs.Strung.{in-kernel, mark-is}
-use Rattle.kernels.proofs.Links.{linksTo, links-next}
+use Rattle.kernels.proofs.Links.{turnsAt, turnsTo, turns-next}
 use Rattle.kernels.proofs.Places.{place, shape-still, table-set}
 
 -- a dart that is not marked i is not passed; one that is, is
@@ -33,18 +32,31 @@ module _ (a : Involutions) (n : ℕ) (mark : ℕ → ℕ) (i e : ℕ) where
   go-stays zero q = refl
   go-stays (suc times) q = rw (q, goOn)
 
-  go-on : (times : ℕ) → 0 < times → marked a n mark i e ≡ true → goOn a n mark times i e ≡ goOn a n mark (times - 1) i (a i (a (between (mark e) .1) e))
-  unfolding goOn
+  no-turns : (times : ℕ) → marked a n mark i e ≡ false → turnsFrom a n mark times i e ≡ 0
+  unfolding turnsFrom
+  no-turns zero q = refl
+  no-turns (suc times) q = rw (q, turnsFrom)
+
+  go-on : (times : ℕ) → 0 < times → marked a n mark i e ≡ true → (goOn a n mark times i e ≡ goOn a n mark (times - 1) i (a i (a (between (mark e) .1) e))) × (turnsFrom a n mark times i e ≡ suc (turnsFrom a n mark (times - 1) i (a i (a (between (mark e) .1) e))))
+  unfolding goOn turnsFrom
   go-on zero l q = absurd (omega arith)
-  go-on (suc times) l q = let k : suc times - 1 ≡ times = omega arith in rw (k, q, goOn)
+  go-on (suc times) l q = let k : suc times - 1 ≡ times = omega arith in (rw (k, q, goOn), rw (k, q, turnsFrom))
+
+-- a way of so many turns, and where it ends
+abbrev pub Goes : Involutions → ℕ → (ℕ → ℕ) → ℕ → ℕ → ℕ → ℕ → ℕ → Type 0
+Goes a n mark times i d e turns = (goOn a n mark times i d ≡ e) × (turnsFrom a n mark times i d ≡ turns)
 
 -- what following the marks of kernel l does at dart e, where Λ is l or is not, Δ is m, and s is the second row of m
 module _ {n N l : ℕ} {lambda delta table : List ℕ} (k : Marks n N l lambda delta) (w : Followed n N (kernelRow lambda delta l) table) (i e : ℕ) (le : e < N) where
   abbrev row : ℕ → ℕ
   row = kernelRow lambda delta l
 
-  pub follow-leaves : eqb (each lambda e) l ≡ false → (times : ℕ) → goOn (entry N table) n row times i e ≡ e
-  follow-leaves q times = go-stays (entry N table) n row i e times (rw (sym (in-kernel k (w .shape .dimension) e le) ∙ q))
+  -- the way stays at e
+  stays : marked (entry N table) n row i e ≡ false → (times : ℕ) → Goes (entry N table) n row times i e e 0
+  stays q times = (go-stays (entry N table) n row i e times q, no-turns (entry N table) n row i e times q)
+
+  pub follow-leaves : eqb (each lambda e) l ≡ false → (times : ℕ) → Goes (entry N table) n row times i e e 0
+  follow-leaves q = stays (rw (sym (in-kernel k (w .shape .dimension) e le) ∙ q))
 
   module _ (q : eqb (each lambda e) l ≡ true) {m : ℕ} (is : m ≡ each delta e) where
     here : isMark n (row e) ≡ true
@@ -56,8 +68,8 @@ module _ {n N l : ℕ} {lambda delta table : List ℕ} (k : Marks n N l lambda d
     pub follow-byte : m < stay
     follow-byte = let z = w .shape .dimension in mark-byte n m (omega arith) (rw row-is here)
 
-    pub follow-stops : (between m .0 ≡ i → ⊥) → (times : ℕ) → goOn (entry N table) n row times i e ≡ e
-    follow-stops ne times = go-stays (entry N table) n row i e times (rw (here, ← row-is) (ne-eqb (between m .0) i ne))
+    pub follow-stops : (between m .0 ≡ i → ⊥) → (times : ℕ) → Goes (entry N table) n row times i e e 0
+    follow-stops ne = stays (rw (here, ← row-is) (ne-eqb (between m .0) i ne))
 
     module _ (li : i ≤ n) {s : ℕ} (ws : s ≡ between m .1) where
       pub follow-row : s ≤ n
@@ -69,21 +81,27 @@ module _ {n N l : ℕ} {lambda delta table : List ℕ} (k : Marks n N l lambda d
           let same : row y ≡ row e = rw (wy, ws, row-is) (w .whole e le here) in
           (ly, w .inside i y li ly (rw same here))
 
-      pub follow-on : {y z : ℕ} → y ≡ entry N table s e → z ≡ entry N table i y → between m .0 ≡ i → (times : ℕ) → 0 < times → goOn (entry N table) n row times i e ≡ goOn (entry N table) n row (times - 1) i z
-      follow-on wy wz f times l = go-on (entry N table) n row i e times l (rw (here, ← row-is, eq-eqb (between m .0) i f)) ∙ rw (wz, wy, ws, row-is)
+      pub follow-on : {y z : ℕ} → y ≡ entry N table s e → z ≡ entry N table i y → between m .0 ≡ i → (times : ℕ) → 0 < times
+          → Goes (entry N table) n row times i e (goOn (entry N table) n row (times - 1) i z) (suc (turnsFrom (entry N table) n row (times - 1) i z))
+      follow-on {y} {z} wy wz f times l =
+          let g = go-on (entry N table) n row i e times l (rw (here, ← row-is, eq-eqb (between m .0) i f)) in
+          let is : entry N table i (entry N table (between (row e) .1) e) ≡ z = rw (wz, wy, ws, row-is) in
+          rw is at g
 
--- a walk by row i from start stands at dart e of kernel l, with its mark, the second row of that, and so many turns left
-pub record Following (N l : ℕ) (lambda delta table : List ℕ) (i start mark second times e : ℕ) : Type 0 where
+-- a walk by row i from start stands after so many turns at dart e of kernel l, with its mark and the second row of that
+pub record Following (N l : ℕ) (lambda delta table : List ℕ) (i start mark second turns e : ℕ) : Type 0 where
   pub dart : e < N
   pub removed : eqb (each lambda e) l ≡ true
   pub mark-is : mark ≡ each delta e
   pub first-row : between mark .0 ≡ i
   pub second-row : second ≡ between mark .1
-  pub rest : (n : ℕ) → Marks n N l lambda delta → Followed n N (kernelRow lambda delta l) table → i ≤ n → goOn (entry N table) n (kernelRow lambda delta l) N i start ≡ goOn (entry N table) n (kernelRow lambda delta l) times i e
+  pub fits : turns ≤ N
+  pub rest : (n : ℕ) → Marks n N l lambda delta → Followed n N (kernelRow lambda delta l) table → i ≤ n
+      → Goes (entry N table) n (kernelRow lambda delta l) N i start (goOn (entry N table) n (kernelRow lambda delta l) (N - turns) i e) (turns + turnsFrom (entry N table) n (kernelRow lambda delta l) (N - turns) i e)
 
 -- its next turn: by the second row to y, and by row i to z
-module _ {n N l : ℕ} {lambda delta table : List ℕ} (k : Marks n N l lambda delta) (w : Followed n N (kernelRow lambda delta l) table) {i start mark second times e : ℕ} (li : i ≤ n)
-    (s : Following N l lambda delta table i start mark second times e) where
+module _ {n N l : ℕ} {lambda delta table : List ℕ} (k : Marks n N l lambda delta) (w : Followed n N (kernelRow lambda delta l) table) {i start mark second turns e : ℕ} (li : i ≤ n)
+    (s : Following N l lambda delta table i start mark second turns e) where
   pub turn-row : second ≤ n
   turn-row = follow-row k w i e (s .dart) (s .removed) (s .mark-is) li (s .second-row)
 
@@ -95,24 +113,36 @@ module _ {n N l : ℕ} {lambda delta table : List ℕ} (k : Marks n N l lambda d
       pub turn-dart : z < N
       turn-dart = rw wz (follow-inside k w i e (s .dart) (s .removed) (s .mark-is) li (s .second-row) wy .1)
 
-      module _ (more : 0 < times) where
-        turned : (n : ℕ) → Marks n N l lambda delta → Followed n N (kernelRow lambda delta l) table → i ≤ n → goOn (entry N table) n (kernelRow lambda delta l) N i start ≡ goOn (entry N table) n (kernelRow lambda delta l) (times - 1) i z
-        turned n k w li = s .rest n k w li ∙ follow-on k w i e (s .dart) (s .removed) (s .mark-is) li (s .second-row) wy wz (s .first-row) times more
+      module _ (more : turns < N) where
+        turned : (n : ℕ) → Marks n N l lambda delta → Followed n N (kernelRow lambda delta l) table → i ≤ n
+            → Goes (entry N table) n (kernelRow lambda delta l) N i start (goOn (entry N table) n (kernelRow lambda delta l) (N - (turns + 1)) i z) (turns + 1 + turnsFrom (entry N table) n (kernelRow lambda delta l) (N - (turns + 1)) i z)
+        turned n k w li =
+            let r = s .rest n k w li in
+            let less : N - turns - 1 ≡ N - (turns + 1) = omega arith in
+            let f = rw less at (follow-on k w i e (s .dart) (s .removed) (s .mark-is) li (s .second-row) wy wz (s .first-row) (N - turns) (omega arith)) in
+            (r .0 ∙ f .0, omega (arith, r .1, f .1))
+
+        -- it ends at z
+        ends : ((times : ℕ) → Goes (entry N table) n (kernelRow lambda delta l) times i z z 0) → Goes (entry N table) n (kernelRow lambda delta l) N i start z (turns + 1)
+        ends stay =
+            let t = turned n k w li in
+            let g = stay (N - (turns + 1)) in
+            (t .0 ∙ g .0, omega (arith, t .1, g .1))
 
         -- z is a survivor
-        pub turn-leaves : eqb (each lambda z) l ≡ false → z ≡ goOn (entry N table) n (kernelRow lambda delta l) N i start
-        turn-leaves q = sym (turned n k w li ∙ follow-leaves k w i z turn-dart q (times - 1))
+        pub turn-leaves : eqb (each lambda z) l ≡ false → Goes (entry N table) n (kernelRow lambda delta l) N i start z (turns + 1)
+        turn-leaves q = ends (follow-leaves k w i z turn-dart q)
 
         -- z is of the kernel, and has mark m
         module _ (q : eqb (each lambda z) l ≡ true) {m : ℕ} (is : m ≡ each delta z) where
           pub turn-byte : m < stay
           turn-byte = follow-byte k w i z turn-dart q is
 
-          pub turn-stops : (between m .0 ≡ i → ⊥) → z ≡ goOn (entry N table) n (kernelRow lambda delta l) N i start
-          turn-stops ne = sym (turned n k w li ∙ follow-stops k w i z turn-dart q is ne (times - 1))
+          pub turn-stops : (between m .0 ≡ i → ⊥) → Goes (entry N table) n (kernelRow lambda delta l) N i start z (turns + 1)
+          turn-stops ne = ends (follow-stops k w i z turn-dart q is ne)
 
-          pub turn-on : {next : ℕ} → between m .0 ≡ i → next ≡ between m .1 → Following N l lambda delta table i start m next (times - 1) z
-          turn-on first second = record { dart = turn-dart; removed = q; mark-is = is; first-row = first; second-row = second; rest = turned }
+          pub turn-on : {next : ℕ} → between m .0 ≡ i → next ≡ between m .1 → Following N l lambda delta table i start m next (turns + 1) z
+          turn-on first second = record { dart = turn-dart; removed = q; mark-is = is; first-row = first; second-row = second; fits = omega arith; rest = turned }
 
 -- a kernel can be followed, and so can a table that agrees with its level at the darts marked
 module _ {n N : ℕ} {mark : ℕ → ℕ} {before : List ℕ} (r : Ready n N mark before) (after : List ℕ) (long : length after ≡ length before) (agree : (t d : ℕ) → d < N → isMark n (mark d) ≡ true → entry N before t d ≡ entry N after t d) where
@@ -131,6 +161,9 @@ module _ {n N : ℕ} {mark : ℕ → ℕ} {before : List ℕ} (r : Ready n N mar
 
   go-still : (times i d : ℕ) → i ≤ n → d < N → goOn (entry N after) n mark times i d ≡ goOn (entry N before) n mark times i d
   go-still times i d li ld = sym (goOn-local (entry N before) (entry N after) n (λ d. d < N) mark mark inside whole (λ t d lt. agree t d) (λ d l. refl) times i d li ld)
+
+  turns-still : (times i d : ℕ) → i ≤ n → d < N → turnsFrom (entry N after) n mark times i d ≡ turnsFrom (entry N before) n mark times i d
+  turns-still times i d li ld = sym (turns-local (entry N before) (entry N after) n (λ d. d < N) mark mark inside whole (λ t d lt. agree t d) (λ d l. refl) times i d li ld)
 
 -- the entries of survivors that lead on past the marks, and those that stay
 module _ (n N : ℕ) (mark : ℕ → ℕ) (before : List ℕ) (t k : ℕ) where
@@ -167,7 +200,7 @@ pub record Relinking (n N : ℕ) (mark : ℕ → ℕ) (before after : List ℕ) 
 -- a survivor that leads into the kernel by row t
 pub record Entering (n N : ℕ) (mark : ℕ → ℕ) (before : List ℕ) (t k : ℕ) : Type 0 where
   pub row : t ≤ n
-  pub there : There (entry N before) n N (present N before) k
+  pub there : There N (present N before) k
   pub stays : isMark n (mark k) ≡ false
   pub enters : marked (entry N before) n mark t (entry N before t k) ≡ true
 
@@ -226,15 +259,15 @@ module _ {n N first : ℕ} {mark : ℕ → ℕ} {next before : List ℕ} (r : Re
   a = entry N before
 
   -- what the kernel leaves is a map: each of its links leads back
-  linked : Valid (removal a n mark N) n (λ d. There a n N (present N before) d × (isMark n (mark d) ≡ false))
-  linked = removal-valid a n mark (There a n N (present N before)) (r .tested .sound .valid) (r .kernel) N (λ d p. p .0)
+  linked : Valid (removal a n mark N) n (λ d. There N (present N before) d × (isMark n (mark d) ≡ false))
+  linked = removal-valid a n mark (There N (present N before)) (r .tested .sound .valid) (r .kernel) N (λ d p. p .0)
 
   -- where the link of a survivor ends, it leads into the kernel too
   module _ (t k : ℕ) (s : Entering n N mark before t k) where
     abbrev end : ℕ
     end = removal a n mark N t k
 
-    end-left : There a n N (present N before) end × (isMark n (mark end) ≡ false)
+    end-left : There N (present N before) end × (isMark n (mark end) ≡ false)
     end-left = linked .inside t k (s .row) (s .there, s .stays)
 
     end-back : removal a n mark N t end ≡ k
@@ -295,10 +328,10 @@ module _ {n N first : ℕ} {mark : ℕ → ℕ} {next before : List ℕ} (r : Re
         b-is : b ≡ a i d
         b-is = wb ∙ sym (agrees i d ld (to .here ld))
 
-        there : There a n N (present N before) d
+        there : There N (present N before) d
         there = (ld, r .tested .marked d ld (to .here ld))
 
-        b-there : There a n N (present N before) b
+        b-there : There N (present N before) b
         b-there = rw b-is (r .tested .sound .valid .inside i d low there)
 
         pub b-dart : b < N
@@ -359,15 +392,15 @@ module _ {n N first : ℕ} {mark : ℕ → ℕ} {next before : List ℕ} (r : Re
                   let h : a t (end t k s) ≡ d → ⊥ = eqb-false (a t (end t k s)) d f in
                   absurd (true≢false (sym (end-enters t k s) ∙ rw (on .none (a t (end t k s)) (omega arith) m (end-inside t k s))))
 
-          -- the links begun before e are those before d, and that of d, if it begins one
-          counted : {c : Bool} → firstOfLink n N mark before d ≡ c → linksTo n N mark before e ≡ linksTo n N mark before d + one c
-          counted q = links-next n N mark before w d e ld on ∙ ap (λ (x : Bool). linksTo n N mark before d + one x) q
+          -- the turns of the links begun before e are those of the links before d, and of that of d, if it begins one
+          counted : {c : Bool} → firstOfLink n N mark before d ≡ c → turnsTo n N mark before e ≡ turnsTo n N mark before d + cond c (turnsAt n N mark before d) 0
+          counted q = turns-next n N mark before w d e ld on ∙ ap (λ (x : Bool). turnsTo n N mark before d + cond x (turnsAt n N mark before d) 0) q
 
           -- b is of the kernel too: nothing is written
           pub relink-kept : isMark n (mark b) ≡ true → RelinkTo n N mark before after e
           relink-kept q = onward (to .table) (settled (to .table) i b b-dart (relinked-marked n N mark before i b q)) (λ s. absurd (true≢false (sym q ∙ s .stays))) (λ t k s z. z) (λ t k s f g. refl)
 
-          pub count-kept : isMark n (mark b) ≡ true → linksTo n N mark before e ≡ linksTo n N mark before d
+          pub count-kept : isMark n (mark b) ≡ true → turnsTo n N mark before e ≡ turnsTo n N mark before d
           unfolding firstOfLink
           count-kept q = omega (arith, counted {c = false} (rw (to .here ld, ← is, ← b-is, q)))
 
@@ -392,12 +425,14 @@ module _ {n N first : ℕ} {mark : ℕ → ℕ} {next before : List ℕ} (r : Re
               relink-known =
                   onward (to .table) (to .set-back i b own before-d) (λ s. to .table .passed i (end i b own) (end-left i b own .0 .0) (end-inside i b own) before-d) (λ t k s z. z) (λ t k s f g. refl)
 
-              pub count-known : linksTo n N mark before e ≡ linksTo n N mark before d
+              pub count-known : turnsTo n N mark before e ≡ turnsTo n N mark before d
               count-known = omega (arith, counted {c = false} (begun ∙ rw (lt-ltb (a i (end i b own)) d before-d)))
 
             -- b leads back: no dart before d is of its link
-            pub count-joined : entry N after i b ≡ d → linksTo n N mark before e ≡ linksTo n N mark before d + 1
-            count-joined leads = counted {c = true} (begun ∙ go (ltb (a i (end i b own)) d) refl)
+            pub count-joined : entry N after i b ≡ d → turnsTo n N mark before e ≡ turnsTo n N mark before d + turnsFrom (entry N after) n mark N i d
+            count-joined leads =
+                let same : turnsAt n N mark before d ≡ turnsFrom (entry N after) n mark N i d = rw (← is) (sym (turns-still r after (to .table .long) agrees N i d low ld)) in
+                omega (arith, counted {c = true} (begun ∙ go (ltb (a i (end i b own)) d) refl), same)
               where
                 go : (x : Bool) → ltb (a i (end i b own)) d ≡ x → not (ltb (a i (end i b own)) d) ≡ true
                 go false p = rw p

@@ -6,7 +6,8 @@ use Rattle.maps.specs.Verdict.{Verdict, accepted, _then_}
 use Rattle.maps.specs.Table.{entry}
 use Rattle.maps.specs.Check.{check9, check10, checkKernel}
 use Rattle.maps.specs.CheckBase.{present}
-use Rattle.facts.proofs.Checks.{There, kernel-sound}
+use Rattle.maps.specs.Explicit.{There}
+use Rattle.facts.proofs.Checks.{kernel-sound}
 use Rattle.answers.specs.Numbers.{refusalOf}
 use Rattle.answers.specs.declared.Refusal.{Refusal}
 use Rattle.answers.proofs.Refusals.{refusal-keeps, refused-first, refused-second, accepted-both}
@@ -40,7 +41,7 @@ module _ {n N : ℕ} {mark : ℕ → ℕ} {table : List ℕ} (t : Tested n N mar
     all = accepted-both both nine ten tests f g
 
     pub step-ready : Ready n N mark table
-    step-ready = record { tested = t; kernel = kernel-sound (entry N table) n N mark l (There (entry N table) n N (present N table)) (t .sound .valid) (λ d o. o .0) (sym all) }
+    step-ready = record { tested = t; kernel = kernel-sound (entry N table) n N mark l (There N (present N table)) (t .sound .valid) (λ d o. o .0) (sym all) }
 
     pub step-removed : {after : List ℕ} → after ≡ removedFrom n N mark table → (accepted ≡ both) × (after ≡ stepLeaves n N l mark table)
     step-removed e = (all, rw (← all) e)

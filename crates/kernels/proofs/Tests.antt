@@ -72,15 +72,15 @@ module _ {n N l first : ℕ} {lambda delta next table : List ℕ} {v : ℕ → V
 module _ (n N l : ℕ) (mark : ℕ → ℕ) (table : List ℕ) where
   -- number 9 of dart d, and number 10
   abbrev pub nine : ℕ → Verdict
-  nine d = scan (suc n) (at9 (entry N table) n N mark l d)
+  nine d = scan (suc n) (at9 (entry N table) n mark l d)
 
   abbrev pub ten : ℕ → Verdict
-  ten d = at10 (entry N table) n N mark l d
+  ten d = at10 (entry N table) n mark l d
 
   -- a dart that is not marked is not refused
   pub nine-free : (x : ℕ) → x < N → isMark n (mark x) ≡ false → nine x ≡ accepted
   unfolding at9
-  nine-free x lx q = scan-all (suc n) (at9 (entry N table) n N mark l x) (λ j lj. rw q)
+  nine-free x lx q = scan-all (suc n) (at9 (entry N table) n mark l x) (λ j lj. rw q)
 
   pub ten-free : (x : ℕ) → x < N → isMark n (mark x) ≡ false → ten x ≡ accepted
   unfolding at10
@@ -95,25 +95,25 @@ module _ {n N l first : ℕ} {lambda delta next table : List ℕ} {d : ℕ} (w :
   abbrev out : ℕ → Bool
   out j = not (eqb j (between m .0)) && not (eqb (row (entry N table j d)) m)
 
-  at-nine : (j : ℕ) → at9 (entry N table) n N row l d j ≡ when (out j) (refused 9 l j d)
+  at-nine : (j : ℕ) → at9 (entry N table) n row l d j ≡ when (out j) (refused 9 l j d)
   unfolding at9
   at-nine j = rw (is ∙ walk-mark w ld, w .here ld)
 
-  module _ (j : ℕ) (so-far : scan j (at9 (entry N table) n N row l d) ≡ accepted) where
-    pub nine-stays : out j ≡ false → scan (j + 1) (at9 (entry N table) n N row l d) ≡ accepted
-    nine-stays e = scan-more (at9 (entry N table) n N row l d) j so-far (at-nine j ∙ rw e)
+  module _ (j : ℕ) (so-far : scan j (at9 (entry N table) n row l d) ≡ accepted) where
+    pub nine-stays : out j ≡ false → scan (j + 1) (at9 (entry N table) n row l d) ≡ accepted
+    nine-stays e = scan-more (at9 (entry N table) n row l d) j so-far (at-nine j ∙ rw e)
 
     pub nine-passed : {e : ℕ} → j ≡ n + 1 → e ≡ each next d → Walk n N l first lambda delta next table (nine n N l row table) e
     nine-passed all next-is = let z : j ≡ suc n = omega arith in walk-next w ld next-is (rw z at so-far)
 
     pub nine-leaves : j ≤ n → out j ≡ true → refused 9 l j d ≡ check9 (entry N table) n N row l
     unfolding check9
-    nine-leaves lj e = sym (walk-breach w ld 9 l j d (scan-first (suc n) (at9 (entry N table) n N row l d) j 9 l j d (omega arith) so-far (at-nine j ∙ rw e)))
+    nine-leaves lj e = sym (walk-breach w ld 9 l j d (scan-first (suc n) (at9 (entry N table) n row l d) j 9 l j d (omega arith) so-far (at-nine j ∙ rw e)))
 
 module _ {n N l first : ℕ} {lambda delta next table : List ℕ} {d : ℕ} (w : Walk n N l first lambda delta next table (ten n N l (kernelRow lambda delta l) table) d) (ld : d < N) (m : ℕ) (is : m ≡ each delta d) where
   -- does its own test fail
   abbrev fails : Bool
-  fails = hasBeyond n m && differs (entry N table) n N (λ x. m) 0 d
+  fails = hasBeyond n m && differs (entry N table) (λ x. m) d
 
   at-ten : ten n N l (kernelRow lambda delta l) table d ≡ when fails (refused 10 l (between m .1) d)
   unfolding at10

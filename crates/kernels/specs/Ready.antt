@@ -6,14 +6,14 @@ use Prim.Native.Nat.{ℕ, suc, _+_, _*_, _<_, _≤_}
 use lib.ListN.{length}
 use lib.Dec.{ltb}
 use Rattle.maps.specs.Verdict.{ifAccepted}
-use Rattle.maps.specs.Count.{count}
+use Rattle.maps.specs.Count.{sum}
 use Rattle.maps.specs.Mark.{isMark, between}
 use Rattle.maps.specs.Kernel.{Kernel}
-use Rattle.maps.specs.Removal.{goOn, removal}
+use Rattle.maps.specs.Removal.{goOn, turnsFrom, removal}
 use Rattle.maps.specs.Table.{entry, absent, explicit}
 use Rattle.maps.specs.Check.{checkKernel}
 use Rattle.maps.specs.CheckBase.{present}
-use Rattle.facts.proofs.Checks.{There, Sound}
+use Rattle.maps.specs.Explicit.{There, Sound}
 
 -- sizes in range, and the length that goes with them
 pub record Shape (n N : ℕ) (table : List ℕ) : Type 0 where
@@ -37,7 +37,7 @@ pub record Tested (n N : ℕ) (mark : ℕ → ℕ) (table : List ℕ) : Type 0 w
 -- and the row is a kernel of the level
 pub record Ready (n N : ℕ) (mark : ℕ → ℕ) (table : List ℕ) : Type 0 where
   pub tested : Tested n N mark table
-  pub kernel : Kernel (entry N table) n (There (entry N table) n N (present N table)) mark
+  pub kernel : Kernel (entry N table) n (There N (present N table)) mark
 
 -- what following the marks asks: from a dart marked every involution leads to a dart, and the one that passes it to a dart of the same mark
 pub record Followed (n N : ℕ) (mark : ℕ → ℕ) (table : List ℕ) : Type 0 where
@@ -60,9 +60,9 @@ firstOfLink n N mark table d =
     && (not (isMark n (mark (entry N table (between (mark d) .0) d)))
     && not (ltb (entry N table (between (mark d) .0) (goOn (entry N table) n mark N (between (mark d) .0) d)) d))
 
--- how many links between survivors the kernel makes, each counted at one end
-unfoldable pub linksMade : ℕ → ℕ → (ℕ → ℕ) → List ℕ → ℕ
-linksMade n N mark table = count (firstOfLink n N mark table) N
+-- the turns past the marks, over all links between survivors that the kernel makes, each counted at one end
+unfoldable pub turnsMade : ℕ → ℕ → (ℕ → ℕ) → List ℕ → ℕ
+turnsMade n N mark table = sum (λ d. cond (firstOfLink n N mark table d) (turnsFrom (entry N table) n mark N (between (mark d) .0) d) 0) N
 
 -- the table after, with f at every entry
 pub record TableIs (N : ℕ) (f : ℕ → ℕ → ℕ) (before after : List ℕ) : Type 0 where

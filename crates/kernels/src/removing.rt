@@ -11,11 +11,11 @@ ghost use mathlib.Core.Bool.{Bool, _&&_};
 ghost use Prim.Native.Nat.{ℕ, _+_, _*_, _<_, _≤_};
 ghost use lib.ListN.{set};
 ghost use lib.Dec.{eqb, ltb};
-ghost use Rattle.maps.specs.Removal.{goOn};
+ghost use Rattle.maps.specs.Removal.{goOn, turnsFrom};
 ghost use Rattle.maps.specs.Mark.{between as betweenOf};
 ghost use Rattle.maps.specs.Table.{entry, each};
 ghost use Rattle.kernels.specs.Strings.{kernelRow, Along, Strings, Marks, Strung};
-ghost use Rattle.kernels.specs.Ready.{Shape, Place, Ready, Followed, relinked, linksMade, TableIs, Cleared, removedFrom};
+ghost use Rattle.kernels.specs.Ready.{Shape, Place, Ready, Followed, relinked, turnsMade, TableIs, Cleared, removedFrom};
 
 // The entry of dart d in row i is stored.
 fn put(darts: usize, i: Dim, d: usize, entry: u16, table: &mut [u16])
@@ -40,6 +40,12 @@ struct Start {
     dart: usize,
 }
 
+// Where following ends, and the turns that it took.
+struct End {
+    dart: usize,
+    turns: usize,
+}
+
 // From the start, while there is a dart of kernel l whose mark has the first row that the start's has: on by the second row of that mark, then by the first. The rows of a mark are found anew only where it changes.
 fn follow(
     n: Dim,
@@ -49,35 +55,36 @@ fn follow(
     delta: &[u8],
     table: &[u16],
     start: Start,
-) -> usize
+) -> End
     requires { ⌜ Marks (n .0) darts (l .0) (now lambda) (now delta) × Followed (n .0) darts (kernelRow (now lambda) (now delta) (l .0)) (now table) ⌝ }
     requires { ⌜ (start .row .0 ≤ n .0) × (start .dart < darts) × (each (now lambda) (start .dart) ≡ l .0) × (betweenOf (each (now delta) (start .dart)) .0 ≡ start .row .0) ⌝ }
-    ensures { λ r. ⌜ (r ≡ goOn (entry darts (now (table .entry))) (n .0) (kernelRow (now (lambda .entry)) (now (delta .entry)) (l .0)) darts (start .row .0) (start .dart)) × (r < darts) ⌝ }
+    ensures { λ r. ⌜ (r .dart ≡ goOn (entry darts (now (table .entry))) (n .0) (kernelRow (now (lambda .entry)) (now (delta .entry)) (l .0)) darts (start .row .0) (start .dart)) × (r .dart < darts) ⌝ }
+    ensures { λ r. ⌜ r .turns ≡ turnsFrom (entry darts (now (table .entry))) (n .0) (kernelRow (now (lambda .entry)) (now (delta .entry)) (l .0)) darts (start .row .0) (start .dart) ⌝ }
 {
     let i = start.row;
     let mut mark = mark_of(delta, start.dart);
     let mut rows = answers::between(mark);
-    let mut times = darts;
+    let mut turns = 0;
     let mut e = start.dart;
-    while 0 < times {
+    while turns < darts {
         e = at(darts, table, i, at(darts, table, rows.1, e));
-        times = times - 1;
+        turns = turns + 1;
         if !removed(lambda, l, e) {
-            return e;
+            return End { dart: e, turns };
         }
         let met = mark_of(delta, e);
         if met.0 != mark.0 {
             mark = met;
             rows = answers::between(mark);
             if rows.0.0 != i.0 {
-                return e;
+                return End { dart: e, turns };
             }
         }
     }
-    e
+    End { dart: e, turns }
 }
 
-// Survivors relinked, from the darts of kernel l: where one leads to a survivor by its mark's first row, the survivor is linked to the one past the marks. A survivor that no longer leads back has its link from the other end. The answer is how many links were followed.
+// Survivors relinked, from the darts of kernel l: where one leads to a survivor by its mark's first row, the survivor is linked to the one past the marks. A survivor that no longer leads back has its link from the other end. The answer is how many turns were taken, over all links followed.
 fn relink(
     kernel: Kernel,
     lambda: &[u8],
@@ -87,13 +94,13 @@ fn relink(
 ) -> usize
     requires { ⌜ Ready (kernel .n .0) (kernel .darts) (kernelRow (now lambda) (now delta) (kernel .level .0)) (now table) ⌝ }
     requires { ⌜ Strung (kernel .n .0) (kernel .darts) (kernel .level .0) (kernel .first) (now lambda) (now delta) (now next) ⌝ }
-    ensures answer { λ r. ⌜ r ≡ linksMade (kernel .n .0) (kernel .darts) (kernelRow (now (lambda .entry)) (now (delta .entry)) (kernel .level .0)) (now (table .entry)) ⌝ }
+    ensures answer { λ r. ⌜ r ≡ turnsMade (kernel .n .0) (kernel .darts) (kernelRow (now (lambda .entry)) (now (delta .entry)) (kernel .level .0)) (now (table .entry)) ⌝ }
     ensures table_left { λ _. ⌜ TableIs (kernel .darts) (relinked (kernel .n .0) (kernel .darts) (kernelRow (now (lambda .entry)) (now (delta .entry)) (kernel .level .0)) (now (table .entry))) (now (table .entry)) (now (table .exit)) ⌝ }
 {
     let n = kernel.n;
     let darts = kernel.darts as usize;
     let l = kernel.level;
-    let mut links = 0;
+    let mut turns = 0;
     let mut d = kernel.first as usize;
     while d < darts {
         let rows = answers::between(mark_of(delta, d));
@@ -103,13 +110,13 @@ fn relink(
             if at(darts, table, i, b) == d {
                 let start = Start { row: i, dart: d };
                 let end = follow(n, darts, l, lambda, delta, table, start);
-                join(darts, i, b, end, table);
-                links = links + 1;
+                join(darts, i, b, end.dart, table);
+                turns = turns + end.turns;
             }
         }
         d = next_of(next, d);
     }
-    links
+    turns
 }
 
 // Row i cleared: 65,535 at the darts strung from the first on, whichever these are.

@@ -87,7 +87,7 @@ pub fn whole(
 fn commuting(n: Dim, darts: usize, table: &[u16], mark: Mark, d: usize) -> bool
     requires { ⌜ Shape (n .0) darts (now table) × (isMark (n .0) (mark .0) ≡ true) × (d < darts) × (hasBeyond (n .0) (mark .0) ≡ true) ⌝ }
     requires { ⌜ ((t : ℕ) → t ≤ n .0 → entry darts (now table) t d < darts) ⌝ }
-    ensures { λ r. ⌜ not r ≡ (hasBeyond (n .0) (mark .0) && differs (entry darts (now (table .entry))) (n .0) darts (λ _. mark .0) 0 d) ⌝ }
+    ensures { λ r. ⌜ not r ≡ (hasBeyond (n .0) (mark .0) && differs (entry darts (now (table .entry))) (λ _. mark .0) d) ⌝ }
 {
     let rows = answers::between(mark);
     let near = rows.1;

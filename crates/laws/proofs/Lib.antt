@@ -3,3 +3,4 @@ pub mod Verdicts
 pub mod Tables
 pub mod Sizes
 pub mod Marks
+pub mod MarkRows

@@ -6,7 +6,7 @@ use Prim.Native.Nat.{ℕ, _+_, _-_, _≤_, _<_}
 use native.Mathlib.Omega.{arith}
 use lib.Dec.{eqb, ltb}
 use borrow.Author.Tests.{ltb-true, ltb-false, lt-ltb, le-ltb, eqb-true, ne-eqb}
-use Rattle.maps.specs.Mark.{isMark, contracts, stay, widest, between, hasBeyond, beyond, canPass, across}
+use Rattle.maps.specs.Mark.{isMark, contracts, stay, widest, between, lower, hasBeyond, beyond, canPass, across}
 
 -- A removed dart is passed between the rows δ and δ+1, a contracted one between δ and δ−1.
 abbrev pub onto : Bool → ℕ → ℕ
@@ -81,11 +81,7 @@ second-row mark = go (contracts mark) refl
     go true e = rw e
     go false e = rw e
 
--- The lower of a mark's two rows.
-unfoldable pub lower : ℕ → ℕ
-lower mark = cond (contracts mark) (mark - 8 - 1) mark
-
--- the two are that one and the next, in either order
+-- the two rows are the lower one and the next, in either order
 pub lower-rows : (mark : ℕ) → (between mark ≡ (lower mark, lower mark + 1)) ⊎ (between mark ≡ (lower mark + 1, lower mark))
 unfolding between lower
 lower-rows mark = go (contracts mark) refl

@@ -2,6 +2,9 @@
 // It keeps 156,160 bytes: the input (65,536), rows and a table (40,960 each), Λ and Δ (4,096 each) and survivor words (512). Assumes the contracts of read and write.
 use answers::Dim;
 use answers::Level;
+use answers::MOST_ENTRIES;
+use answers::ROOM;
+use answers::Sizes;
 use reading::Unfolding;
 use records::Taken;
 
@@ -16,9 +19,7 @@ fn level_line(level: Level, survivors: u32, all: Unfolding) {
 
 // One level's line; in an accepted pyramid neither job refuses it.
 fn one_level(
-    n: Dim,
-    darts: u16,
-    h: Level,
+    sizes: Sizes,
     rows: &[u16],
     lambda: &[u8],
     delta: &[u8],
@@ -26,12 +27,10 @@ fn one_level(
     table: &mut [u16],
     words: &mut [u64; 64],
 ) {
-    match rows::survivors(darts, h, lambda, level, words) {
+    match rows::survivors(sizes.darts, sizes.h, lambda, level, words) {
         rows::Survivors::Refused(r) => programs::refuse(1, r),
         rows::Survivors::Counted(survivors) => match reading::unfold(
-            n,
-            darts,
-            h,
+            sizes,
             rows,
             lambda,
             delta,
@@ -44,29 +43,11 @@ fn one_level(
     }
 }
 
-fn all_levels(
-    n: Dim,
-    darts: u16,
-    h: Level,
-    rows: &[u16],
-    lambda: &[u8],
-    delta: &[u8],
-    table: &mut [u16],
-) {
+fn all_levels(sizes: Sizes, rows: &[u16], lambda: &[u8], delta: &[u8], table: &mut [u16]) {
     let mut words = [0u64; 64];
-    let top = h.0;
+    let top = sizes.h.0;
     for l in 0..=top {
-        one_level(
-            n,
-            darts,
-            h,
-            rows,
-            lambda,
-            delta,
-            Level(l),
-            table,
-            &mut words,
-        );
+        one_level(sizes, rows, lambda, delta, Level(l), table, &mut words);
     }
 }
 
@@ -84,16 +65,17 @@ fn print_pyramid(
     programs::number(1, darts as u64);
     programs::number(1, h.0 as u64);
     io::write_all(1, b"\n");
-    all_levels(n, darts, h, rows, lambda, delta, table);
+    let sizes = Sizes { n, h, darts };
+    all_levels(sizes, rows, lambda, delta, table);
 }
 
 // A pyramid that is taken stands at the front of the arrays, since its sizes are in range.
 fn main() {
     let mut input = io::large_buffer();
-    let mut rows = [0u16; 20480];
-    let mut lambda = [0u8; 4096];
-    let mut delta = [0u8; 4096];
-    let mut table = [0u16; 20480];
+    let mut rows = [0u16; MOST_ENTRIES];
+    let mut lambda = [0u8; ROOM];
+    let mut delta = [0u8; ROOM];
+    let mut table = [0u16; MOST_ENTRIES];
     let length = io::read_full(0, &mut input);
     match taking::take(
         &input[..length],

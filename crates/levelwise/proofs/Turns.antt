@@ -10,7 +10,20 @@ use Rattle.maps.specs.Mark.{between}
 use Rattle.maps.specs.Folded.{gone, refusedMarks}
 use Rattle.maps.specs.Walk.{Walked, ended, stopped}
 use Rattle.maps.specs.ByLevels.{readBase, overLevel, readLevel}
-use Rattle.levelwise.specs.Ends.{onward, reached, passed}
+use Rattle.levelwise.specs.Ends.{entered}
+
+-- what is stopped stays so, and else it goes on
+abbrev pub onward : Walked → (ℕ → ℕ → ℕ → Walked) → Walked
+onward (ended row dart count) go = go row dart count
+onward (stopped number row dart) go = stopped number row dart
+
+-- a pass of dart e on level l has reached dart d by row u, with k entries read: it must be in that kernel with the same mark, else 14
+abbrev pub reached : (ℕ → ℕ) → (ℕ → ℕ) → ℕ → ℕ → ℕ → ℕ → ℕ → Walked
+reached Λ Δ l e u d k = cond (eqb (Λ d) l && eqb (Δ d) (Δ e)) (ended u d k) (stopped 14 u d)
+
+-- the part of a turn of `overLevel` that passes dart e, met by row t with c entries read, on level l, which `below` reads
+abbrev pub passed : (ℕ → ℕ) → (ℕ → ℕ) → (ℕ → ℕ → ℕ → Walked) → ℕ → ℕ → ℕ → ℕ → Walked
+passed Λ Δ below l t e c = cond (entered Λ Δ l t e) (onward (below (between (Δ e) .1) e c) (reached Λ Δ l e)) (stopped 14 t e)
 
 -- Row t was read with c entries read before, and the reading ended by row u at dart e with c₁: by the row that it began with, at a dart
 -- whose marks are not refused, with more entries read.

@@ -1,16 +1,18 @@
 -- The document's value for each way that a reading by levels ends, and what each function is lent and gives. Assumes nothing: these are definitions.
 use mathlib.Core.Path.{_≡_}
-use mathlib.Core.Bool.{false, cond, _&&_}
+use mathlib.Core.Bool.{Bool, true, false, _&&_}
 use mathlib.Core.List.{List}
-use Prim.Native.Nat.{ℕ, suc, _≤_, _<_}
+use Prim.Native.Nat.{ℕ, _≤_, _<_}
+use lib.ListN.{length}
 use lib.Dec.{eqb}
-use Rattle.maps.specs.Mark.{between}
-use Rattle.maps.specs.Table.{entry, each}
-use Rattle.maps.specs.Folded.{refusedMarks}
+use Rattle.maps.specs.Mark.{between, stay}
+use Rattle.maps.specs.Table.{each}
+use Rattle.maps.specs.Folded.{Folded, base, lambdaOf, deltaOf}
 use Rattle.maps.specs.Walk.{Walked, ended, stopped}
 use Rattle.maps.specs.ByLevels.{readLevel}
+use Rattle.answers.specs.declared.Onward.{Onward}
+use Rattle.answers.specs.declared.Onward.the-variants.{By, Nowhere}
 use Rattle.questions.specs.Lent.{Lent}
-use Rattle.questions.specs.declared.Sizes.{Sizes}
 use Rattle.levelwise.specs.declared.Place.{Place}
 use Rattle.levelwise.specs.declared.Stop.{Stop}
 use Rattle.levelwise.specs.declared.Stop.the-variants.{TooLong, Strays, Marks, NoPass}
@@ -29,41 +31,34 @@ abbrev pub walkedOf : ℕ → ℕ → End → Walked
 walkedOf i b (At p) = ended (p .row .0) (p .dart) (p .count)
 walkedOf i b (Stopped s p) = stoppedOf i b s p
 
--- what is stopped stays so, and else it goes on
-abbrev pub onward : Walked → (ℕ → ℕ → ℕ → Walked) → Walked
-onward (ended row dart count) go = go row dart count
-onward (stopped number row dart) go = stopped number row dart
+-- what the test of a dart met is lent: its Λ and Δ, which is a mark where the dart is in kernel l
+pub record Passable (lambda delta : List ℕ) (l dart : ℕ) : Type 0 where
+  pub lambda-has : dart < length lambda
+  pub delta-has : dart < length delta
+  pub marked : each lambda dart ≡ l → each delta dart < stay
 
--- a pass of dart e on level l has reached dart d by row u, with k entries read: it must be in that kernel with the same mark, else 14
-abbrev pub reached : (ℕ → ℕ) → (ℕ → ℕ) → ℕ → ℕ → ℕ → ℕ → ℕ → Walked
-reached Λ Δ l e u d k = cond (eqb (Λ d) l && eqb (Δ d) (Δ e)) (ended u d k) (stopped 14 u d)
+-- is dart e, met by row t, in kernel l and t the first row of its mark
+abbrev pub entered : (ℕ → ℕ) → (ℕ → ℕ) → ℕ → ℕ → ℕ → Bool
+entered Λ Δ l t e = eqb (Λ e) l && eqb (between (Δ e) .0) t
 
--- the part of a turn of `overLevel` that passes dart e, met by row t with c entries read, on level l, which `below` reads
-abbrev pub passed : (ℕ → ℕ) → (ℕ → ℕ) → (ℕ → ℕ → ℕ → Walked) → ℕ → ℕ → ℕ → ℕ → Walked
-passed Λ Δ below l t e c = cond (eqb (Λ e) l && eqb (between (Δ e) .0) t) (onward (below (between (Δ e) .1) e c) (reached Λ Δ l e)) (stopped 14 t e)
+-- where it is so, the second row of its mark
+abbrev pub Second : (ℕ → ℕ) → (ℕ → ℕ) → ℕ → ℕ → ℕ → Onward → Type 0
+Second Λ Δ l t e (By row) = (entered Λ Δ l t e ≡ true) × (row .0 ≡ between (Δ e) .1)
+Second Λ Δ l t e Nowhere = entered Λ Δ l t e ≡ false
 
-module _ (s : Sizes) (rows lambda delta : List ℕ) where
+module _ (f : Folded) where
   -- a place's row may be read on level l: it lies in the map, and all is lent that a walk at a level from l up is lent
   pub record Asked (l : ℕ) (p : Place) : Type 0 where
     pub top : ℕ
-    pub lent : Lent (s .n .0) (s .darts) (s .h .0) rows lambda delta top
+    pub lent : Lent f top
     pub under : l ≤ top
-    pub row : p .row .0 ≤ s .n .0
-    pub dart : p .dart < s .darts
+    pub row : p .row .0 ≤ f .n
+    pub dart : p .dart < f .N
 
   -- row t of dart d on level l, c entries being read before, where involution i of dart b is asked
   abbrev pub levelOf : ℕ → ℕ → ℕ → ℕ → ℕ → ℕ → Walked
-  levelOf i b l t d c = readLevel (entry (s .darts) rows) (s .n .0) (s .darts) (s .h .0) (each lambda) (each delta) i b l t d c
+  levelOf i b l t d c = readLevel (base f) (f .n) (f .N) (f .h) (lambdaOf f) (deltaOf f) i b l t d c
 
   -- r is what a place's row gives on level l, whatever is asked
   abbrev pub Reads : ℕ → Place → End → Type 0
   Reads l p r = (i b : ℕ) → walkedOf i b r ≡ levelOf i b l (p .row .0) (p .dart) (p .count)
-
-  -- a place was met on level l, which has a kernel, and the marks of its dart are not refused
-  pub record Meets (l : ℕ) (p : Place) : Type 0 where
-    pub asked : Asked (suc l) p
-    pub marks : refusedMarks (s .n .0) (s .h .0) (each lambda (p .dart)) (each delta (p .dart)) ≡ false
-
-  -- r is how a place that was met is passed on level l
-  abbrev pub Passes : ℕ → Place → End → Type 0
-  Passes l p r = (i b : ℕ) → walkedOf i b r ≡ passed (each lambda) (each delta) (levelOf i b l) l (p .row .0) (p .dart) (p .count)

@@ -2,17 +2,22 @@
 use answers::Check;
 use answers::Dim;
 use answers::Level;
-use answers::Mark;
+use answers::Onward;
 use answers::Question;
 use answers::Refusal;
+use answers::Sizes;
 use questions::Neighbour;
 use questions::Reading;
-use questions::Sizes;
 ghost use mathlib.Core.Path.{_≡_};
+ghost use mathlib.Core.Bool.{_&&_};
 ghost use Prim.Native.Nat.{_<_};
+ghost use lib.ListN.{length};
+ghost use lib.Dec.{eqb};
+ghost use Rattle.maps.specs.Table.{each};
 ghost use Rattle.maps.specs.Read.{readingOf, readLentByLevels};
+ghost use Rattle.answers.specs.Pyramid.{lent};
 ghost use Rattle.questions.specs.Answers.{valueOf};
-ghost use Rattle.levelwise.specs.Ends.{walkedOf, Asked, Reads, Meets, Passes};
+ghost use Rattle.levelwise.specs.Ends.{walkedOf, Asked, Reads, Passable, Second};
 
 // A row of a dart, and the number of base entries read so far: the row to read next, or the row read last where the dart was met.
 struct Place {
@@ -37,8 +42,8 @@ enum End {
 
 // One base entry: 15, 5, and 8 of the dart met.
 fn read_base(sizes: Sizes, rows: &[u16], lambda: &[u8], delta: &[u8], at: Place) -> End
-    requires { ⌜ Asked sizes (now rows) (now lambda) (now delta) 0 at ⌝ }
-    ensures { λ r. ⌜ Reads sizes (now (rows .entry)) (now (lambda .entry)) (now (delta .entry)) 0 at r ⌝ }
+    requires { ⌜ Asked (lent sizes rows lambda delta) 0 at ⌝ }
+    ensures { λ r. ⌜ Reads (lent sizes (rows .entry) (lambda .entry) (delta .entry)) 0 at r ⌝ }
 {
     if 1 + 2 * sizes.darts as u32 <= at.count {
         return End::Stopped(Stop::TooLong, at);
@@ -54,7 +59,8 @@ fn read_base(sizes: Sizes, rows: &[u16], lambda: &[u8], delta: &[u8], at: Place)
         count: at.count + 1,
     };
     let to = dart as usize;
-    if answers::marks_refused(sizes.n, sizes.h, Level(lambda[to]), Mark(delta[to])) {
+    let own = answers::lambda_at(lambda, to);
+    if answers::marks_refused(sizes.n, sizes.h, own, answers::delta_at(delta, to)) {
         return End::Stopped(Stop::Marks, met);
     }
     End::At(met)
@@ -62,8 +68,8 @@ fn read_base(sizes: Sizes, rows: &[u16], lambda: &[u8], delta: &[u8], at: Place)
 
 // A row of a dart on level l: the base entry, or a walk over the level below.
 fn reading(sizes: Sizes, rows: &[u16], lambda: &[u8], delta: &[u8], l: Level, at: Place) -> End
-    requires { ⌜ Asked sizes (now rows) (now lambda) (now delta) (l .0) at ⌝ }
-    ensures { λ r. ⌜ Reads sizes (now (rows .entry)) (now (lambda .entry)) (now (delta .entry)) (l .0) at r ⌝ }
+    requires { ⌜ Asked (lent sizes rows lambda delta) (l .0) at ⌝ }
+    ensures { λ r. ⌜ Reads (lent sizes (rows .entry) (lambda .entry) (delta .entry)) (l .0) at r ⌝ }
 {
     if l.0 == 0 {
         return read_base(sizes, rows, lambda, delta, at);
@@ -71,10 +77,38 @@ fn reading(sizes: Sizes, rows: &[u16], lambda: &[u8], delta: &[u8], l: Level, at
     walk(sizes, rows, lambda, delta, l, at)
 }
 
-// The walk over the level below l, whose every step is a reading there: it ends at the first dart that is on level l.
+// By which row a dart met on level l that is not on the level above is passed: by its mark's second, where it is in kernel l and was met by its mark's first.
+fn second_row(lambda: &[u8], delta: &[u8], l: Level, met: Place) -> Onward
+    requires { ⌜ Passable (now lambda) (now delta) (l .0) (met .dart) ⌝ }
+    ensures { λ r. ⌜ Second (each (now (lambda .entry))) (each (now (delta .entry))) (l .0) (met .row .0) (met .dart) r ⌝ }
+{
+    let at = met.dart as usize;
+    if !answers::in_kernel(answers::lambda_at(lambda, at), l) {
+        return Onward::Nowhere;
+    }
+    let passage = answers::between(answers::delta_at(delta, at));
+    if passage.0.0 != met.row.0 {
+        return Onward::Nowhere;
+    }
+    let across = passage.1;
+    Onward::By(across)
+}
+
+// Is the dart that a pass has reached in kernel l, with the mark of the dart passed?
+fn same_kernel(lambda: &[u8], delta: &[u8], l: Level, passed: u16, reached: u16) -> bool
+    requires { ⌜ (reached < length (now lambda)) × (reached < length (now delta)) × (passed < length (now delta)) ⌝ }
+    ensures { λ r. ⌜ r ≡ (eqb (each (now (lambda .entry)) reached) (l .0) && eqb (each (now (delta .entry)) reached) (each (now (delta .entry)) passed)) ⌝ }
+{
+    let own = answers::lambda_at(lambda, reached as usize);
+    let mark = answers::delta_at(delta, reached as usize);
+    let other = answers::delta_at(delta, passed as usize);
+    answers::both(answers::in_kernel(own, l), answers::same_mark(mark, other))
+}
+
+// The walk over the level below l, whose every step is a reading there: it ends at the first dart that is on level l. A dart met that is not is passed by two steps: it must be in the kernel below, met by its mark's first row, and the dart that the second row leads to must be there with the same mark, else 14.
 fn walk(sizes: Sizes, rows: &[u16], lambda: &[u8], delta: &[u8], l: Level, from: Place) -> End
-    requires { ⌜ Asked sizes (now rows) (now lambda) (now delta) (l .0) from × (0 < l .0) ⌝ }
-    ensures { λ r. ⌜ Reads sizes (now (rows .entry)) (now (lambda .entry)) (now (delta .entry)) (l .0) from r ⌝ }
+    requires { ⌜ Asked (lent sizes rows lambda delta) (l .0) from × (0 < l .0) ⌝ }
+    ensures { λ r. ⌜ Reads (lent sizes (rows .entry) (lambda .entry) (delta .entry)) (l .0) from r ⌝ }
 {
     let below = Level(l.0 - 1);
     let row = from.row;
@@ -84,12 +118,24 @@ fn walk(sizes: Sizes, rows: &[u16], lambda: &[u8], delta: &[u8], l: Level, from:
         match step {
             End::Stopped(stop, place) => return End::Stopped(stop, place),
             End::At(met) => {
-                if l.0 <= lambda[met.dart as usize] {
+                let own = answers::lambda_at(lambda, met.dart as usize);
+                if !answers::is_gone(own, l) {
                     return step;
                 }
-                match pass(sizes, rows, lambda, delta, below, met) {
+                let Onward::By(across) = second_row(lambda, delta, below, met) else {
+                    return End::Stopped(Stop::NoPass, met);
+                };
+                let second = Place {
+                    row: across,
+                    dart: met.dart,
+                    count: met.count,
+                };
+                match reading(sizes, rows, lambda, delta, below, second) {
                     End::Stopped(stop, place) => return End::Stopped(stop, place),
                     End::At(next) => {
+                        if !same_kernel(lambda, delta, below, met.dart, next.dart) {
+                            return End::Stopped(Stop::NoPass, next);
+                        }
                         at = Place {
                             row,
                             dart: next.dart,
@@ -98,40 +144,6 @@ fn walk(sizes: Sizes, rows: &[u16], lambda: &[u8], delta: &[u8], l: Level, from:
                     }
                 }
             }
-        }
-    }
-}
-
-// Past a dart met on level l that is not on the level above: to the dart that its mark's second row leads to. It must be in kernel l,
-// met by its mark's first row, and the dart reached must be there with the same mark, else 14.
-fn pass(sizes: Sizes, rows: &[u16], lambda: &[u8], delta: &[u8], l: Level, met: Place) -> End
-    requires { ⌜ Meets sizes (now rows) (now lambda) (now delta) (l .0) met ⌝ }
-    ensures { λ r. ⌜ Passes sizes (now (rows .entry)) (now (lambda .entry)) (now (delta .entry)) (l .0) met r ⌝ }
-{
-    let dart = met.dart;
-    let at = dart as usize;
-    if lambda[at] != l.0 {
-        return End::Stopped(Stop::NoPass, met);
-    }
-    let mark = Mark(delta[at]);
-    let passage = answers::between(mark);
-    if passage.0.0 != met.row.0 {
-        return End::Stopped(Stop::NoPass, met);
-    }
-    let across = passage.1;
-    let second = Place {
-        row: across,
-        dart,
-        count: met.count,
-    };
-    match reading(sizes, rows, lambda, delta, l, second) {
-        End::Stopped(stop, place) => End::Stopped(stop, place),
-        End::At(next) => {
-            let to = next.dart as usize;
-            if answers::both(lambda[to] == l.0, delta[to] == mark.0) {
-                return End::At(next);
-            }
-            End::Stopped(Stop::NoPass, next)
         }
     }
 }
@@ -161,30 +173,22 @@ fn answer(asked: Question, end: End) -> Reading
 
 // The neighbour of a dart at a level, on any tables, by readings one level lower each.
 pub fn read_by_levels(
-    n: Dim,
-    darts: u16,
-    h: Level,
+    sizes: Sizes,
     rows: &[u16],
     lambda: &[u8],
     delta: &[u8],
-    level: Level,
-    involution: Dim,
-    dart: u16,
+    asked: Question,
 ) -> Reading
-    ensures { λ r. ⌜ valueOf r ≡ readLentByLevels (n .0) darts (h .0) (now (rows .entry)) (now (lambda .entry)) (now (delta .entry)) (level .0) (involution .0) dart ⌝ }
+    ensures { λ r. ⌜ valueOf r ≡ readLentByLevels (lent sizes (rows .entry) (lambda .entry) (delta .entry)) (asked .level .0) (asked .involution .0) (asked .dart) ⌝ }
 {
-    let asked = Question {
-        level,
-        involution,
-        dart,
-    };
-    let sizes = Sizes { n, h, darts };
     if let Check::Refused(r) = questions::question(sizes, rows, lambda, delta, asked) {
         return Reading::Refused(r);
     }
+    let level = asked.level;
+    let involution = asked.involution;
     let start = Place {
         row: involution,
-        dart,
+        dart: asked.dart,
         count: 0,
     };
     answer(asked, reading(sizes, rows, lambda, delta, level, start))

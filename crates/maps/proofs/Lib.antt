@@ -1,2 +1,5 @@
 pub mod Small
+pub mod Jobs
+pub mod Names
+pub mod Relations
 pub mod StarAgain

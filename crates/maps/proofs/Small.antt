@@ -1,9 +1,10 @@
 -- The small maps P1 to P10, small maps with contraction, a small record and a partner's map, by computation on the definitions. Assumes nothing.
 use mathlib.Core.Path.{_≡_, refl}
-use mathlib.Core.Bool.{true, false}
+use mathlib.Core.Bool.{true, false, _&&_}
 use mathlib.Core.List.{List, [], _∷_}
 use Prim.Native.Nat.{ℕ, zero, suc, _<_}
 use native.Mathlib.Omega.{arith}
+use lib.Dec.{leb}
 use lib.Ieee.{Float, binary64, div, ofInt, round, ofBits}
 use Rattle.maps.specs.Verdict.{Verdict, accepted, refused, scan}
 use Rattle.maps.specs.Sizes.{number1, number2, number3, number4, sizes}
@@ -11,52 +12,41 @@ use Rattle.maps.specs.Count.{count, sum}
 use Rattle.maps.specs.Mark.{isMark, between, hasBeyond, beyond, across}
 use Rattle.maps.specs.Removal.{goOn, removal}
 use Rattle.maps.specs.Table.{entry, each, listed, explicit}
-use Rattle.maps.specs.Folded.{gone, marks, level, levelTable}
+use Rattle.maps.specs.Folded.{gone, marks, level, levelTable, Folded}
 use Rattle.maps.specs.Walk.{Walked, ended, stopped, walkFrom, walk}
 use Rattle.maps.specs.Trail.{sinceOf, largest, trailFrom, trail, since, latest}
 use Rattle.maps.specs.ByLevels.{readBase, overLevel, readLevel, byLevels}
 use Rattle.maps.specs.Cost.{reads, cost}
-use Rattle.maps.specs.Sizes.{number1, number2, number3, sizes, number4}
-use Rattle.maps.specs.CheckPyramid.{checkLent}
 use Rattle.maps.specs.Decimation.{decimationLent, decimationEmpty, decimationFactor}
 use Rattle.maps.specs.Join.{joinLent, joinHeight, joinLambda}
 use Rattle.maps.specs.Check.{at5, at6, at7, check5, check6, check7, checkMap, at9, at10, check9, check10, checkKernel, at8, check8, kernelAt, checkKernels, checkPyramid}
 use Rattle.maps.specs.CheckPyramid.{leftBehind, checkLent, checkLeaves}
 use Rattle.maps.specs.Record.{wide, field, formed, recordRows, recordLambda, recordDelta, recordLent, takeLent, takeRows, takeLambda, takeDelta, takeTable}
-use Rattle.maps.specs.Sizes.{number2, number4}
 use Rattle.maps.specs.Partner.{Becomes, number2M, outside, edgesBack, had, number21, importLent, exportLent}
 
 -- a folded pyramid as it is lent: n, N, h, rows, Λ, Δ
-pub record Lent : Type 0 where
-  pub n : ℕ
-  pub N : ℕ
-  pub h : ℕ
-  pub rows : List ℕ
-  pub lambda : List ℕ
-  pub delta : List ℕ
-
-abbrev pub verdict : Lent → Verdict
+abbrev pub verdict : Folded → Verdict
 verdict p = checkPyramid (entry p.N p.rows) p.n p.N p.h (each p.lambda) (each p.delta)
 
 -- a_i of dart d on level l, by the removals
-abbrev pub neighbour : Lent → ℕ → ℕ → ℕ → ℕ
+abbrev pub neighbour : Folded → ℕ → ℕ → ℕ → ℕ
 neighbour p l i d = level (entry p.N p.rows) p.n p.N (marks p.h (each p.lambda) (each p.delta)) l i d
 
 -- the same by the direct walk and by levels
-abbrev pub direct : Lent → ℕ → ℕ → ℕ → Walked
+abbrev pub direct : Folded → ℕ → ℕ → ℕ → Walked
 direct p l i d = walk (entry p.N p.rows) p.n p.N p.h (each p.lambda) (each p.delta) l i d
 
-abbrev pub levelwise : Lent → ℕ → ℕ → ℕ → Walked
+abbrev pub levelwise : Folded → ℕ → ℕ → ℕ → Walked
 levelwise p l i d = byLevels (entry p.N p.rows) p.n p.N p.h (each p.lambda) (each p.delta) i d l
 
-abbrev pub costs : Lent → ℕ → ℕ
+abbrev pub costs : Folded → ℕ → ℕ
 costs p l = cost (entry p.N p.rows) p.n p.N p.h (each p.lambda) (each p.delta) l
 
-abbrev pub table : Lent → ℕ → List ℕ
+abbrev pub table : Folded → ℕ → List ℕ
 table p l = levelTable (entry p.N p.rows) p.n p.N p.h (each p.lambda) (each p.delta) l
 
 -- the rows that a direct walk reads, one after the other
-unfoldable pub rowsRead : Lent → ℕ → ℕ → ℕ → ℕ → List ℕ
+unfoldable pub rowsRead : Folded → ℕ → ℕ → ℕ → ℕ → List ℕ
 rowsRead p l zero t d = []
 rowsRead p l (suc k) t d = t ∷ elim (gone (each p.lambda) l (entry p.N p.rows t d)) [
   | true ↦ rowsRead p l k (across (each p.delta (entry p.N p.rows t d)) t) (entry p.N p.rows t d)
@@ -73,23 +63,27 @@ abbrev starRows : List ℕ
 starRows = 6 ∷ 7 ∷ 8 ∷ 9 ∷ 10 ∷ 11 ∷ 0 ∷ 1 ∷ 2 ∷ 3 ∷ 4 ∷ 5 ∷ 5 ∷ 2 ∷ 1 ∷ 4 ∷ 3 ∷ 0 ∷ 7 ∷ 6 ∷ 9 ∷ 8 ∷ 11 ∷ 10 ∷ 1 ∷ 0 ∷ 3 ∷ 2 ∷ 5 ∷ 4 ∷ 7 ∷ 6 ∷ 9 ∷ 8 ∷ 11 ∷ 10 ∷ []
 
 -- P1 Segment, vertex {1} removed
-abbrev pub one : Lent
+abbrev pub one : Folded
 one = record { n = 1; N = 2; h = 1; rows = segment; lambda = 1 ∷ 0 ∷ []; delta = 1 ∷ 0 ∷ [] }
 
 -- P2 Same, both vertices removed
-abbrev pub both : Lent
+abbrev pub both : Folded
 both = record { n = 1; N = 2; h = 1; rows = segment; lambda = 0 ∷ 0 ∷ []; delta = 0 ∷ 0 ∷ [] }
 
--- P3 Square, {1,2} removed; P4 then {3,4}
-abbrev pub corners : Lent
+-- P3 Square, {1,2} removed
+abbrev pub corner : Folded
+corner = record { n = 1; N = 8; h = 1; rows = square; lambda = 1 ∷ 0 ∷ 0 ∷ 1 ∷ 1 ∷ 1 ∷ 1 ∷ 1 ∷ []; delta = 1 ∷ 0 ∷ 0 ∷ 1 ∷ 1 ∷ 1 ∷ 1 ∷ 1 ∷ [] }
+
+-- P4 then {3,4}
+abbrev pub corners : Folded
 corners = record { n = 1; N = 8; h = 2; rows = square; lambda = 2 ∷ 0 ∷ 0 ∷ 1 ∷ 1 ∷ 2 ∷ 2 ∷ 2 ∷ []; delta = 1 ∷ 0 ∷ 0 ∷ 0 ∷ 0 ∷ 1 ∷ 1 ∷ 1 ∷ [] }
 
 -- P5 Square, only dart 1 marked
-abbrev pub half : Lent
+abbrev pub half : Folded
 half = record { n = 1; N = 8; h = 1; rows = square; lambda = 1 ∷ 0 ∷ 1 ∷ 1 ∷ 1 ∷ 1 ∷ 1 ∷ 1 ∷ []; delta = 1 ∷ 0 ∷ 1 ∷ 1 ∷ 1 ∷ 1 ∷ 1 ∷ 1 ∷ [] }
 
 -- P6 a vertex {0,1,2,3} with two edge sides by count
-abbrev pub twoSides : Lent
+abbrev pub twoSides : Folded
 twoSides = record {
   n = 2;
   N = 8;
@@ -99,25 +93,40 @@ twoSides = record {
   delta = 0 ∷ 0 ∷ 0 ∷ 0 ∷ 2 ∷ 2 ∷ 2 ∷ 2 ∷ [];
 }
 
+-- how many edge sides the vertices of kernel 0 have: a side is a dart of one and its a_2-neighbour
+abbrev edgeSides : Folded → ℕ
+edgeSides p = count (λ d. gone (each p.lambda) 1 d && leb d (entry p.N p.rows 2 d)) p.N
+
 -- P7 a0 and a2 don't commute
-abbrev pub apart : Lent
+abbrev pub apart : Folded
 apart = record { n = 2; N = 4; h = 0; rows = 1 ∷ 0 ∷ 3 ∷ 2 ∷ 0 ∷ 1 ∷ 2 ∷ 3 ∷ 2 ∷ 1 ∷ 0 ∷ 3 ∷ []; lambda = 0 ∷ 0 ∷ 0 ∷ 0 ∷ []; delta = 2 ∷ 2 ∷ 2 ∷ 2 ∷ [] }
 
 -- P8 Star, edge {2,3,8,9} removed; P9 then vertex {0,1,4,5}
-abbrev pub star : Lent
+abbrev pub star : Folded
 star = record { n = 2; N = 12; h = 2; rows = starRows; lambda = 1 ∷ 1 ∷ 0 ∷ 0 ∷ 1 ∷ 1 ∷ 2 ∷ 2 ∷ 0 ∷ 0 ∷ 2 ∷ 2 ∷ []; delta = 0 ∷ 0 ∷ 1 ∷ 1 ∷ 0 ∷ 0 ∷ 2 ∷ 2 ∷ 1 ∷ 1 ∷ 2 ∷ 2 ∷ [] }
 
 -- P10 Star, vertex {0..5} in kernel 0
-abbrev pub hub : Lent
+abbrev pub hub : Folded
 hub = record { n = 2; N = 12; h = 1; rows = starRows; lambda = 0 ∷ 0 ∷ 0 ∷ 0 ∷ 0 ∷ 0 ∷ 1 ∷ 1 ∷ 1 ∷ 1 ∷ 1 ∷ 1 ∷ []; delta = 0 ∷ 0 ∷ 0 ∷ 0 ∷ 0 ∷ 0 ∷ 2 ∷ 2 ∷ 2 ∷ 2 ∷ 2 ∷ 2 ∷ [] }
+
+-- a vertex {0..5}, of which 0, 1 and 2 pass the test and 3 doesn't
+abbrev pub later : Folded
+later = record {
+  n = 3;
+  N = 6;
+  h = 1;
+  rows = 0 ∷ 1 ∷ 2 ∷ 3 ∷ 4 ∷ 5 ∷ 1 ∷ 0 ∷ 2 ∷ 4 ∷ 3 ∷ 5 ∷ 0 ∷ 1 ∷ 2 ∷ 3 ∷ 5 ∷ 4 ∷ 3 ∷ 4 ∷ 5 ∷ 0 ∷ 1 ∷ 2 ∷ [];
+  lambda = 0 ∷ 0 ∷ 0 ∷ 0 ∷ 0 ∷ 0 ∷ [];
+  delta = 0 ∷ 0 ∷ 0 ∷ 0 ∷ 0 ∷ 0 ∷ [];
+}
 
 pub record SmallMaps : Type 0 where
   pub p1 : (verdict one ≡ accepted) × (neighbour one 1 0 0 ≡ 0) × (direct one 1 0 0 ≡ ended 0 0 3) × (costs one 1 ≡ 4)
   pub p2 : (verdict both ≡ accepted) × (table both 1 ≡ 65535 ∷ 65535 ∷ 65535 ∷ 65535 ∷ []) × (costs both 1 ≡ 0)
-  pub p3 : (verdict corners ≡ accepted) × (neighbour corners 1 0 0 ≡ 3) × (neighbour corners 1 0 3 ≡ 0) × (direct corners 1 0 0 ≡ ended 0 3 3) × (direct corners 1 0 3 ≡ ended 0 0 3) × (costs corners 1 ≡ 16)
+  pub p3 : (verdict corners ≡ accepted) × (neighbour corners 1 0 0 ≡ 3) × (neighbour corners 1 0 3 ≡ 0) × (direct corners 1 0 0 ≡ ended 0 3 3) × (direct corners 1 0 3 ≡ ended 0 0 3) × (costs corners 1 ≡ 16) × (verdict corner ≡ accepted) × (neighbour corner 1 0 0 ≡ 3) × (neighbour corner 1 0 3 ≡ 0) × (direct corner 1 0 0 ≡ ended 0 3 3) × (direct corner 1 0 3 ≡ ended 0 0 3) × (costs corner 1 ≡ 16)
   pub p4 : (neighbour corners 2 0 0 ≡ 5) × (neighbour corners 2 0 5 ≡ 0) × (direct corners 2 0 0 ≡ ended 0 5 5) × (direct corners 2 0 5 ≡ ended 0 0 5) × (costs corners 2 ≡ 16)
   pub p5 : verdict half ≡ refused 9 0 1 1
-  pub p6 : verdict twoSides ≡ refused 10 0 1 0
+  pub p6 : (edgeSides twoSides ≡ 2) × (verdict twoSides ≡ refused 10 0 1 0)
   pub p7 : verdict apart ≡ refused 7 0 0 0
   pub p8 : (neighbour star 1 1 1 ≡ 4) × (neighbour star 1 1 4 ≡ 1)
   pub p9 : (verdict star ≡ accepted) × (neighbour star 2 0 7 ≡ 10) × (direct star 2 0 7 ≡ ended 0 10 5) × (levelwise star 2 0 7 ≡ ended 0 10 5) × (rowsRead star 2 5 0 7 ≡ 0 ∷ 1 ∷ 2 ∷ 1 ∷ 0 ∷ []) × (costs star 0 ≡ 36) × (costs star 1 ≡ 28) × (costs star 2 ≡ 24)
@@ -128,10 +137,10 @@ unfolding isMark between hasBeyond beyond scan count sum goOn removal listed exp
 small-maps = record {
   p1 = (refl, refl, refl, refl);
   p2 = (refl, refl, refl);
-  p3 = (refl, refl, refl, refl, refl, refl);
+  p3 = (refl, refl, refl, refl, refl, refl, refl, refl, refl, refl, refl, refl);
   p4 = (refl, refl, refl, refl, refl);
   p5 = refl;
-  p6 = refl;
+  p6 = (refl, refl);
   p7 = refl;
   p8 = (refl, refl);
   p9 = (refl, refl, refl, refl, refl, refl, refl, refl);
@@ -140,10 +149,10 @@ small-maps = record {
 
 -- ---- since which level a link stands
 
-abbrev sinces : Lent → ℕ → ℕ → ℕ → ℕ
+abbrev sinces : Folded → ℕ → ℕ → ℕ → ℕ
 sinces p l i b = since (entry p.N p.rows) p.N (each p.lambda) (each p.delta) l i b
 
-abbrev latests : Lent → ℕ → ℕ
+abbrev latests : Folded → ℕ → ℕ
 latests p l = latest (entry p.N p.rows) p.N (each p.lambda) (each p.delta) l p.n
 
 pub record SmallLinks : Type 0 where
@@ -166,14 +175,14 @@ small-links = record {
 
 -- ---- how fast it shrinks: what is asked of a level, the rows lent as the table
 
-abbrev asked : Lent → ℕ → Verdict
-asked p l = decimationLent p.n p.N p.h p.rows p.lambda p.delta p.rows l
+abbrev asked : Folded → ℕ → Verdict
+asked p l = decimationLent p p.rows l
 
-abbrev isEmpty : Lent → ℕ → ℕ
-isEmpty p l = decimationEmpty p.n p.N p.h p.rows p.lambda p.delta p.rows l
+abbrev isEmpty : Folded → ℕ → ℕ
+isEmpty p l = decimationEmpty p p.rows l
 
-abbrev factor : Lent → ℕ → Float
-factor p l = decimationFactor p.n p.N p.h p.rows p.lambda p.delta p.rows l
+abbrev factor : Folded → ℕ → Float
+factor p l = decimationFactor p p.rows l
 
 pub record SmallFactors : Type 0 where
   -- the star has 12, 8 and 4 survivors: 1.5, then 2, by their bits
@@ -190,14 +199,14 @@ small-factors = record {
 
 -- ---- kernels joined: what is asked of a level, the rows lent as the table
 
-abbrev joining : Lent → ℕ → Verdict
-joining p l = joinLent p.n p.N p.h p.rows p.lambda p.delta p.rows l
+abbrev joining : Folded → ℕ → Verdict
+joining p l = joinLent p p.rows l
 
-abbrev height : Lent → ℕ → ℕ
-height p l = joinHeight p.n p.N p.h p.rows p.lambda p.delta p.rows l
+abbrev height : Folded → ℕ → ℕ
+height p l = joinHeight p p.rows l
 
-abbrev lambdas : Lent → ℕ → List ℕ
-lambdas p l = joinLambda p.n p.N p.h p.rows p.lambda p.delta p.rows l
+abbrev lambdas : Folded → ℕ → List ℕ
+lambdas p l = joinLambda p p.rows l
 
 pub record SmallJoins : Type 0 where
   -- the square's two corners become one kernel
@@ -215,19 +224,19 @@ small-joins = record {
 -- ---- contraction
 
 -- segment, its edge contracted
-abbrev pub shrunk : Lent
+abbrev pub shrunk : Folded
 shrunk = record { n = 1; N = 2; h = 1; rows = segment; lambda = 0 ∷ 0 ∷ []; delta = 9 ∷ 9 ∷ [] }
 
 -- square, edge {0,1} contracted
-abbrev pub shorter : Lent
+abbrev pub shorter : Folded
 shorter = record { n = 1; N = 8; h = 1; rows = square; lambda = 0 ∷ 0 ∷ 1 ∷ 1 ∷ 1 ∷ 1 ∷ 1 ∷ 1 ∷ []; delta = 9 ∷ 9 ∷ 1 ∷ 1 ∷ 1 ∷ 1 ∷ 1 ∷ 1 ∷ [] }
 
 -- square, vertex {1,2} removed, then edge {0,3} contracted
-abbrev pub inTurn : Lent
+abbrev pub inTurn : Folded
 inTurn = record { n = 1; N = 8; h = 2; rows = square; lambda = 1 ∷ 0 ∷ 0 ∷ 1 ∷ 2 ∷ 2 ∷ 2 ∷ 2 ∷ []; delta = 9 ∷ 0 ∷ 0 ∷ 9 ∷ 1 ∷ 1 ∷ 1 ∷ 1 ∷ [] }
 
 -- one kernel: edge {1,2} removed, edge {3,4} contracted; a1 joins 0 and 1, 2 and 3, 4 and 5
-abbrev pub mixed : Lent
+abbrev pub mixed : Folded
 mixed = record {
   n = 2;
   N = 6;
@@ -238,7 +247,7 @@ mixed = record {
 }
 
 -- the rows of P6 in the other order, and its vertex as a face to be contracted
-abbrev pub twoSidesDual : Lent
+abbrev pub twoSidesDual : Folded
 twoSidesDual = record {
   n = 2;
   N = 8;
@@ -249,7 +258,7 @@ twoSidesDual = record {
 }
 
 -- the star's rows in the other order: edge {2,3,8,9} contracted, then face {0,1,4,5}
-abbrev pub starDual : Lent
+abbrev pub starDual : Folded
 starDual = record {
   n = 2;
   N = 12;
@@ -260,11 +269,11 @@ starDual = record {
 }
 
 -- an edge {0,1}, half of it marked to be removed and half to be contracted
-abbrev pub torn : Lent
+abbrev pub torn : Folded
 torn = record { n = 2; N = 2; h = 1; rows = 1 ∷ 0 ∷ 0 ∷ 1 ∷ 0 ∷ 1 ∷ []; lambda = 0 ∷ 0 ∷ []; delta = 1 ∷ 9 ∷ [] }
 
 -- unchecked: of two a2-neighbours 1 and 2 one is removed and one contracted
-abbrev pub unlike : Lent
+abbrev pub unlike : Folded
 unlike = record {
   n = 2;
   N = 4;
@@ -275,7 +284,7 @@ unlike = record {
 }
 
 -- the bytes n to 8 and 9+n to 254 are no marks
-abbrev pub tooHigh : ℕ → Lent
+abbrev pub tooHigh : ℕ → Folded
 tooHigh mark = record { n = 1; N = 2; h = 1; rows = segment; lambda = 0 ∷ 0 ∷ []; delta = mark ∷ mark ∷ [] }
 
 pub record SmallContractions : Type 0 where
@@ -307,11 +316,11 @@ small-contractions = record {
 abbrev pub halfEdge : List ℕ
 halfEdge = 0x01 ∷ 4 ∷ 0 ∷ 1 ∷ 1 ∷ 2 ∷ 0 ∷ 0x10 ∷ 4 ∷ 0 ∷ 1 ∷ 0 ∷ 0 ∷ 0 ∷ 0x11 ∷ 4 ∷ 0 ∷ 0 ∷ 0 ∷ 1 ∷ 0 ∷ 0x30 ∷ 2 ∷ 0 ∷ 0 ∷ 1 ∷ 0x31 ∷ 2 ∷ 0 ∷ 9 ∷ 1 ∷ []
 
--- lent slices, each longer by one entry than the record needs
-abbrev sevens : ℕ → List ℕ
+-- a lent slice that holds 7
+abbrev pub sevens : ℕ → List ℕ
 sevens m = listed (λ _. 7) m
 
--- taken into slices of sevens: refused 9, the record in the rows and marks, level 0 in the table
+-- taken into slices of sevens, each longer by one entry than the record needs: refused 9, the record in the rows and marks, level 0 in the table
 pub record SmallRecord : Type 0 where
   pub refuses : takeLent halfEdge wide (sevens 5) (sevens 3) (sevens 3) (sevens 5) ≡ refused 9 0 0 0
   pub rows-left : takeRows halfEdge wide (sevens 5) (sevens 3) (sevens 3) (sevens 5) ≡ 1 ∷ 0 ∷ 0 ∷ 1 ∷ 7 ∷ []
@@ -333,7 +342,7 @@ abbrev partnerVertices : List ℕ
 partnerVertices = 2 ∷ 1 ∷ 4 ∷ 3 ∷ 0 ∷ 5 ∷ []
 
 -- it becomes a star, as that of P8 with other numbers
-abbrev partnerBase : List ℕ
+abbrev pub partnerBase : List ℕ
 partnerBase = 3 ∷ 2 ∷ 1 ∷ 0 ∷ 7 ∷ 6 ∷ 5 ∷ 4 ∷ 11 ∷ 10 ∷ 9 ∷ 8 ∷ 9 ∷ 4 ∷ 3 ∷ 2 ∷ 1 ∷ 8 ∷ 7 ∷ 6 ∷ 5 ∷ 0 ∷ 11 ∷ 10 ∷ 1 ∷ 0 ∷ 3 ∷ 2 ∷ 5 ∷ 4 ∷ 7 ∷ 6 ∷ 9 ∷ 8 ∷ 11 ∷ 10 ∷ []
 
 -- what holds of 0 to 5 holds below 6

@@ -12,8 +12,8 @@ use Rattle.maps.specs.Count.{count}
 use Rattle.maps.specs.Sizes.{sizes, number4, hasLength}
 use Rattle.maps.specs.Map.{Involutions}
 use Rattle.maps.specs.Cell.{Cell}
-use Rattle.maps.specs.Table.{entry, each}
-use Rattle.maps.specs.Folded.{survives, marks, level}
+use Rattle.maps.specs.Table.{each}
+use Rattle.maps.specs.Folded.{survives, marks, level, Folded, base, lambdaOf, deltaOf}
 use Rattle.maps.specs.Check.{checkPyramid}
 use Rattle.maps.specs.CheckPyramid.{leftBehind, tableAt}
 
@@ -56,10 +56,12 @@ countIn cells l i = getD cells (5 * l + i) 0
 abbrev pub sumAt : List ℤ → ℕ → ℤ
 sumAt sums l = getD sums l (pos 0)
 
-module _ (n N h : ℕ) (rows lambda delta : List ℕ) where
+module _ (f : Folded) where
+  open Folded f using (n, N, h, rows, lambda, delta)
+
   -- Scope: 'Census'. The census of what is lent.
   abbrev pub CensusOf : (ℕ → ℕ → ℕ) → (ℕ → ℤ) → Type 0
-  CensusOf = Census (entry N rows) n N h (each lambda) (each delta)
+  CensusOf = Census (base f) n N h (lambdaOf f) (deltaOf f)
 
   -- Scope: 'Census'. The census in 33 rows of five counts and 33 sums.
   pub record CensusTaken (cells : List (List ℕ)) (sums : List ℤ) : Type 0 where
@@ -90,8 +92,8 @@ module _ (n N h : ℕ) (rows lambda delta : List ℕ) where
     censusLent =
         sizes n N h
         then (number4 (hasLength rows (suc n * N) && (hasLength lambda N && (hasLength delta N && (hasLength table (suc n * N) && (hasLength cells 165 && eqb (length sums) 33)))))
-        then checkPyramid (entry N rows) n N h (each lambda) (each delta))
+        then checkPyramid (base f) n N h (lambdaOf f) (deltaOf f))
 
     -- Scope: 'Left behind'. What is left in the lent table, as by a check.
     unfoldable pub censusTable : List ℕ
-    censusTable = leftBehind (tableAt n N h rows lambda delta table h) (tableAt n N h rows lambda delta table) table censusLent
+    censusTable = leftBehind (tableAt f h) (tableAt f) table censusLent

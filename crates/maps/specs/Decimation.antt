@@ -7,8 +7,7 @@ use lib.IntN.{pos}
 use lib.Ieee.{Float, binary64, div, ofInt}
 use Rattle.maps.specs.Verdict.{Verdict, refused, when, ifAccepted, _then_}
 use Rattle.maps.specs.Count.{one}
-use Rattle.maps.specs.Table.{each}
-use Rattle.maps.specs.Folded.{survivors}
+use Rattle.maps.specs.Folded.{survivors, Folded, lambdaOf}
 use Rattle.maps.specs.CheckPyramid.{checkLent, checkLeaves}
 
 -- Scope: 'Decimation'. A count in double precision.
@@ -19,19 +18,21 @@ double count = ofInt binary64 (pos count)
 abbrev pub quotient : ℕ → ℕ → Float
 quotient count next = div binary64 (double count) (double next)
 
-module _ (n N h : ℕ) (rows lambda delta table : List ℕ) (l : ℕ) where
+module _ (f : Folded) (table : List ℕ) (l : ℕ) where
+  open Folded f using (n, N, h, rows, lambda, delta)
+
   -- Scope: 'Decimation'. The check's tests, then 11: the level asked is h or more.
   unfoldable pub decimationLent : Verdict
-  decimationLent = checkLent n N h rows lambda delta table then when (leb h l) (refused 11 l 0 0)
+  decimationLent = checkLent f table then when (leb h l) (refused 11 l 0 0)
 
   -- Scope: 'Decimation'. 1 where the next level has no dart; refused, 0.
   unfoldable pub decimationEmpty : ℕ
-  decimationEmpty = ifAccepted decimationLent (one (eqb (survivors N (each lambda) (suc l)) 0)) 0
+  decimationEmpty = ifAccepted decimationLent (one (eqb (survivors N (lambdaOf f) (suc l)) 0)) 0
 
   -- Scope: 'Decimation'. The level's survivors by those of the next; where that has no dart and refused, 0.
   unfoldable pub decimationFactor : Float
-  decimationFactor = ifAccepted decimationLent (cond (eqb (survivors N (each lambda) (suc l)) 0) (double 0) (quotient (survivors N (each lambda) l) (survivors N (each lambda) (suc l)))) (double 0)
+  decimationFactor = ifAccepted decimationLent (cond (eqb (survivors N (lambdaOf f) (suc l)) 0) (double 0) (quotient (survivors N (lambdaOf f) l) (survivors N (lambdaOf f) (suc l)))) (double 0)
 
   -- Scope: 'Decimation'. What is left in the lent table: what the check leaves, also after 11.
   unfoldable pub decimationTable : List ℕ
-  decimationTable = checkLeaves n N h rows lambda delta table
+  decimationTable = checkLeaves f table

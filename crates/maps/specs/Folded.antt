@@ -1,4 +1,4 @@
--- The folded form: Λ, the number of the kernel that removes a dart, and Δ, its dimension there. Assumes nothing: these are definitions.
+-- The folded form: Λ, the number of the kernel that removes or contracts a dart, and Δ, its mark there; the mark rows and levels of it. Assumes nothing: these are definitions.
 use mathlib.Core.Bool.{Bool, true, cond, _&&_, not}
 use mathlib.Core.List.{List}
 use Prim.Native.Nat.{ℕ, zero, suc, _≤_, _<_}
@@ -7,7 +7,7 @@ use Rattle.maps.specs.Map.{Involutions}
 use Rattle.maps.specs.Mark.{isMark, stay}
 use Rattle.maps.specs.Removal.{removal}
 use Rattle.maps.specs.Count.{count}
-use Rattle.maps.specs.Table.{explicit}
+use Rattle.maps.specs.Table.{entry, each, explicit}
 
 -- Scope: 'Λ and Δ'. Level l holds the darts with Λ ≥ l.
 abbrev pub On : ℕ → (ℕ → ℕ) → ℕ → ℕ → Type 0
@@ -63,3 +63,28 @@ level a n N kernels (suc l) = removal (level a n N kernels l) n (kernels l) N
 -- Scope: 'Explicit levels'. The table of level l of a folded pyramid.
 abbrev pub levelTable : Involutions → ℕ → ℕ → ℕ → (ℕ → ℕ) → (ℕ → ℕ) → ℕ → List ℕ
 levelTable a n N h Λ Δ l = explicit (level a n N (marks h Λ Δ) l) n N (survives Λ l)
+
+-- Scope: 'What is lent and asked'. A folded pyramid as it is lent: n, N, h, base rows, Λ and Δ.
+pub record Folded : Type 0 where
+  pub n : ℕ
+  pub N : ℕ
+  pub h : ℕ
+  pub rows : List ℕ
+  pub lambda : List ℕ
+  pub delta : List ℕ
+
+-- its involutions
+abbrev pub base : Folded → Involutions
+base f = entry (f .N) (f .rows)
+
+-- its Λ
+abbrev pub lambdaOf : Folded → ℕ → ℕ
+lambdaOf f = each (f .lambda)
+
+-- its Δ
+abbrev pub deltaOf : Folded → ℕ → ℕ
+deltaOf f = each (f .delta)
+
+-- the same from its parts
+abbrev pub ofParts : ℕ → ℕ → ℕ → List ℕ → List ℕ → List ℕ → Folded
+ofParts n N h rows lambda delta = record { n = n; N = N; h = h; rows = rows; lambda = lambda; delta = delta }

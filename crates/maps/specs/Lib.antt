@@ -15,6 +15,7 @@ pub mod Trail
 pub mod ByLevels
 pub mod Cost
 pub mod Pyramid
+pub mod Explicit
 pub mod Check
 pub mod Sizes
 pub mod CheckBase

@@ -24,6 +24,10 @@ widest = 9
 unfoldable pub between : ℕ → ℕ × ℕ
 between mark = cond (contracts mark) (mark - 8, mark - 8 - 1) (mark, mark + 1)
 
+-- Scope: 'Direct walk'. The lower of the two; the other is the next.
+unfoldable pub lower : ℕ → ℕ
+lower mark = cond (contracts mark) (mark - 8 - 1) mark
+
 -- Scope: 'Cells that fit'. Is there a row that has to commute with the second of them?
 unfoldable pub hasBeyond : ℕ → ℕ → Bool
 hasBeyond n mark = cond (contracts mark) (ltb 1 (mark - 8)) (ltb (mark + 1) n)

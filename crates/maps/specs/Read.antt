@@ -1,14 +1,12 @@
 -- Read one neighbour: by the direct walk, and by levels. Assumes nothing: these are definitions.
 use mathlib.Core.Bool.{_&&_, not}
-use mathlib.Core.List.{List}
 use Prim.Native.Nat.{ℕ, suc, _*_}
 use lib.Dec.{ltb}
 use Rattle.maps.specs.Verdict.{Verdict, accepted, refused, when, _then_}
 use Rattle.maps.specs.Sizes.{sizes, number4, number11, number13, hasLength}
-use Rattle.maps.specs.Table.{entry, each}
-use Rattle.maps.specs.Folded.{gone, refusedMarks}
-use Rattle.maps.specs.Walk.{Walked, ended, stopped, walk}
-use Rattle.maps.specs.Trail.{since}
+use Rattle.maps.specs.Folded.{gone, refusedMarks, Folded, base, lambdaOf, deltaOf}
+use Rattle.maps.specs.Walk.{Walked, ended, stopped, walkAt}
+use Rattle.maps.specs.Trail.{sinceAt}
 use Rattle.maps.specs.ByLevels.{byLevels}
 
 -- Scope: 'Read one neighbour'. A neighbour with its count, or a refusal.
@@ -31,7 +29,9 @@ abbrev pub ifFound : Reading → ℕ → ℕ
 ifFound (found neighbour count) number = number
 ifFound (none number level involution dart) x = 0
 
-module _ (n N h : ℕ) (rows lambda delta : List ℕ) (l i d : ℕ) where
+module _ (f : Folded) (l i d : ℕ) where
+  open Folded f using (n, N, h, rows, lambda, delta)
+
   -- Scope: 'Order of tests'. Sizes, lengths, level and involution, then 12 of a dart that isn't there, then 8 and 12 of the starting dart.
   unfoldable pub question : Verdict
   question =
@@ -39,17 +39,25 @@ module _ (n N h : ℕ) (rows lambda delta : List ℕ) (l i d : ℕ) where
       then (number4 (hasLength rows (suc n * N) && (hasLength lambda N && hasLength delta N))
       then (number11 h l i d then (number13 n l i d
       then (when (not (ltb d N)) (refused 12 l i d)
-      then (when (refusedMarks n h (each lambda d) (each delta d)) (refused 8 l i d)
-      then when (gone (each lambda) l d) (refused 12 l i d))))))
+      then (when (refusedMarks n h (lambdaOf f d) (deltaOf f d)) (refused 8 l i d)
+      then when (gone (lambdaOf f) l d) (refused 12 l i d))))))
+
+  -- Scope: 'Fields'. What the direct walk gives.
+  abbrev pub walkGives : Reading
+  walkGives = readingOf l (walkAt f l i d)
+
+  -- Scope: 'Since which level'. Since which level its link stands, 0 in a refusal.
+  abbrev pub walkSince : ℕ
+  walkSince = ifFound walkGives (sinceAt f l i d)
 
   -- Scope: 'Read one neighbour'. The answer by the direct walk.
   unfoldable pub readLent : Reading
-  readLent = unless question (readingOf l (walk (entry N rows) n N h (each lambda) (each delta) l i d))
+  readLent = unless question walkGives
 
   -- Scope: 'Since which level'. One more than the largest Λ passed, or 0 if no dart was passed; 0 in a refusal.
   unfoldable pub readSince : ℕ
-  readSince = ifFound readLent (since (entry N rows) N (each lambda) (each delta) l i d)
+  readSince = ifFound readLent (sinceAt f l i d)
 
   -- Scope: 'Read by levels'. The answer by levels.
   unfoldable pub readLentByLevels : Reading
-  readLentByLevels = unless question (readingOf l (byLevels (entry N rows) n N h (each lambda) (each delta) i d l))
+  readLentByLevels = unless question (readingOf l (byLevels (base f) n N h (lambdaOf f) (deltaOf f) i d l))

@@ -6,7 +6,8 @@ use lib.Dec.{eqb, ltb}
 use Rattle.maps.specs.Verdict.{Verdict, refused, when, ifAccepted, _then_}
 use Rattle.maps.specs.Sizes.{sizes, number4, number11, hasLength}
 use Rattle.maps.specs.Mark.{stay}
-use Rattle.maps.specs.Table.{entry, each, listed, absent}
+use Rattle.maps.specs.Table.{listed, absent}
+use Rattle.maps.specs.Folded.{Folded, base, lambdaOf, deltaOf}
 use Rattle.maps.specs.CheckPyramid.{checkLent, checkLeaves}
 use Rattle.maps.specs.NewBase.{oldNumber, newDarts, newHeight, newΛ, newΔ, newBase}
 
@@ -14,22 +15,24 @@ use Rattle.maps.specs.NewBase.{oldNumber, newDarts, newHeight, newΛ, ne
 unfoldable pub packed : (ℕ → ℕ) → ℕ → ℕ → ℕ → List ℕ
 packed value m filler size = listed (λ x. cond (ltb x m) (value x) filler) size
 
-module _ (n N h : ℕ) (rows lambda delta table : List ℕ) (l : ℕ) (old : List ℕ) where
-  -- Scope: 'Start again from a higher level'. 1, 2, 3, and 4 of the row of old numbers; 4 has no fields, so it is one number with that of the other slices.
-  unfoldable pub rebaseSizes : Verdict
-  rebaseSizes = sizes n N h then number4 (hasLength old N)
+-- Scope: 'Start again from a higher level'. 1, 2, 3, and 4 of the row of old numbers; 4 has no fields, so it is one number with that of the other slices.
+unfoldable pub rebaseSizes : Folded → List ℕ → Verdict
+rebaseSizes f old = sizes (f .n) (f .N) (f .h) then number4 (hasLength old (f .N))
+
+module _ (f : Folded) (table : List ℕ) (l : ℕ) (old : List ℕ) where
+  open Folded f using (n, N, h, rows, lambda, delta)
 
   -- Scope: 'Start again from a higher level'. Then the check's own, then 11, then 2 if level l has no dart.
   unfoldable pub rebaseLent : Verdict
   rebaseLent =
-      rebaseSizes
-      then (checkLent n N h rows lambda delta table
+      rebaseSizes f old
+      then (checkLent f table
       then (number11 h l 0 0
-      then when (eqb (newDarts N (each lambda) l) 0) (refused 2 0 0 0)))
+      then when (eqb (newDarts N (lambdaOf f) l) 0) (refused 2 0 0 0)))
 
   -- Scope: 'Start again from a higher level'. N becomes the survivors' count; refused, as given.
   unfoldable pub rebaseDarts : ℕ
-  rebaseDarts = ifAccepted rebaseLent (newDarts N (each lambda) l) N
+  rebaseDarts = ifAccepted rebaseLent (newDarts N (lambdaOf f) l) N
 
   -- Scope: 'Start again from a higher level'. h is reduced by l; refused, as given.
   unfoldable pub rebaseHeight : ℕ
@@ -39,21 +42,21 @@ module _ (n N h : ℕ) (rows lambda delta table : List ℕ) (l : ℕ) (old : Lis
   unfoldable pub rebaseRows : List ℕ
   rebaseRows =
       ifAccepted rebaseLent
-      (packed (λ x. newBase (entry N rows) n N h (each lambda) (each delta) l (x / newDarts N (each lambda) l) (x % newDarts N (each lambda) l)) (suc n * newDarts N (each lambda) l) absent (suc n * N))
+      (packed (λ x. newBase (base f) n N h (lambdaOf f) (deltaOf f) l (x / newDarts N (lambdaOf f) l) (x % newDarts N (lambdaOf f) l)) (suc n * newDarts N (lambdaOf f) l) absent (suc n * N))
       rows
 
   -- Scope: 'Start again from a higher level'. Λ of the survivors, reduced by l, with 255 behind; refused, as found.
   unfoldable pub rebaseLambda : List ℕ
-  rebaseLambda = ifAccepted rebaseLent (packed (newΛ N (each lambda) l) (newDarts N (each lambda) l) stay N) lambda
+  rebaseLambda = ifAccepted rebaseLent (packed (newΛ N (lambdaOf f) l) (newDarts N (lambdaOf f) l) stay N) lambda
 
   -- Scope: 'Start again from a higher level'. Δ of the survivors, with 255 behind; refused, as found.
   unfoldable pub rebaseDelta : List ℕ
-  rebaseDelta = ifAccepted rebaseLent (packed (newΔ N (each lambda) (each delta) l) (newDarts N (each lambda) l) stay N) delta
+  rebaseDelta = ifAccepted rebaseLent (packed (newΔ N (lambdaOf f) (deltaOf f) l) (newDarts N (lambdaOf f) l) stay N) delta
 
   -- Scope: 'Start again from a higher level'. The old numbers of the new darts, with 65,535 behind; refused, as found.
   unfoldable pub rebaseOld : List ℕ
-  rebaseOld = ifAccepted rebaseLent (packed (oldNumber N (each lambda) l) (newDarts N (each lambda) l) absent N) old
+  rebaseOld = ifAccepted rebaseLent (packed (oldNumber N (lambdaOf f) l) (newDarts N (lambdaOf f) l) absent N) old
 
   -- Scope: 'Start again from a higher level'. The lent table is left as the check leaves it, also after 11 or 2.
   unfoldable pub rebaseTable : List ℕ
-  rebaseTable = ifAccepted rebaseSizes (checkLeaves n N h rows lambda delta table) table
+  rebaseTable = ifAccepted (rebaseSizes f old) (checkLeaves f table) table

@@ -8,6 +8,7 @@ use Rattle.maps.specs.Verdict.{Verdict, refused, when, ifAccepted, _then
 use Rattle.maps.specs.Sizes.{sizes, number4}
 use Rattle.maps.specs.Table.{listed}
 use Rattle.maps.specs.CheckPyramid.{checkLent, checkLeaves}
+use Rattle.maps.specs.Folded.{ofParts}
 
 -- Scope: 'Record'. The rows that a reader allows: of two bytes an entry alone, or of either kind, as old records may have them.
 pub data Allowed : Type 0 where
@@ -118,7 +119,7 @@ module _ (bytes : List ℕ) where
 
       -- Scope: 'Take a record'. Then the check of what the record holds, of which 1 to 4 have passed: 5 to 10.
       unfoldable pub takeLent : Verdict
-      takeLent = recordLent then checkLent recordDimension recordDarts recordHeight recordRows recordLambda recordDelta recordTable
+      takeLent = recordLent then checkLent (ofParts recordDimension recordDarts recordHeight recordRows recordLambda recordDelta) recordTable
 
       -- Scope: 'Take a record'. What is left in the rows: what the record said, also after 5 to 10, the rest of a longer slice untouched; after another number all as found.
       unfoldable pub takeRows : List ℕ
@@ -134,4 +135,4 @@ module _ (bytes : List ℕ) where
 
       -- Scope: 'Take a record'. What is left in the table: what the check leaves in its part, the rest untouched.
       unfoldable pub takeTable : List ℕ
-      takeTable = ifAccepted recordLent (checkLeaves recordDimension recordDarts recordHeight recordRows recordLambda recordDelta recordTable ++ drop (suc recordDimension * recordDarts) table) table
+      takeTable = ifAccepted recordLent (checkLeaves (ofParts recordDimension recordDarts recordHeight recordRows recordLambda recordDelta) recordTable ++ drop (suc recordDimension * recordDarts) table) table

@@ -8,7 +8,8 @@ use Rattle.maps.specs.Verdict.{Verdict, accepted, refused, when, _then_,
 use Rattle.maps.specs.Sizes.{sizes, number4, number11, hasLength}
 use Rattle.maps.specs.Map.{Involutions}
 use Rattle.maps.specs.Mark.{contracts}
-use Rattle.maps.specs.Table.{entry, each}
+use Rattle.maps.specs.Table.{each}
+use Rattle.maps.specs.Folded.{Folded, base, lambdaOf, deltaOf}
 use Rattle.maps.specs.Check.{checkPyramid}
 use Rattle.maps.specs.CheckPyramid.{checkLeaves}
 
@@ -32,20 +33,22 @@ pub record Named (a : Involutions) (n N : ℕ) (Λ Δ : ℕ → ℕ) (l : ℕ) (
 abbrev pub at23 : (ℕ → ℕ) → ℕ → Verdict
 at23 Δ d = when (contracts (Δ d)) (refused 23 0 0 d)
 
-module _ (n N h : ℕ) (rows lambda delta table : List ℕ) (l : ℕ) (names : List ℕ) where
+module _ (f : Folded) (table : List ℕ) (l : ℕ) (names : List ℕ) where
+  open Folded f using (n, N, h, rows, lambda, delta)
+
   -- Scope: 'Name the regions of a level'. The check's tests, the name row measured with the others; then 11, and 23 over all darts.
   unfoldable pub regionsLent : Verdict
   regionsLent =
       sizes n N h
       then (number4 (hasLength names N && (hasLength rows (suc n * N) && (hasLength lambda N && (hasLength delta N && hasLength table (suc n * N)))))
-      then (checkPyramid (entry N rows) n N h (each lambda) (each delta)
-      then (number11 h l 0 0 then scan N (at23 (each delta)))))
+      then (checkPyramid (base f) n N h (lambdaOf f) (deltaOf f)
+      then (number11 h l 0 0 then scan N (at23 (deltaOf f)))))
 
   -- Scope: 'Name the regions of a level'. What is left in the lent table: what the check leaves, also after 11 and 23; as found where the name row has not N entries.
   unfoldable pub regionsTable : List ℕ
-  regionsTable = cond (hasLength names N) (checkLeaves n N h rows lambda delta table) table
+  regionsTable = cond (hasLength names N) (checkLeaves f table) table
 
-  -- Scope: 'Left behind'. Accepted, the name row of level l; refused, the row as found.
-  abbrev pub RegionsLeave : Verdict → List ℕ → Type 0
-  RegionsLeave accepted left = Named (entry N rows) n N (each lambda) (each delta) l left
-  RegionsLeave (refused number level involution dart) left = left ≡ names
+-- Scope: 'Left behind'. Accepted, the name row of level l; refused, the row as found.
+abbrev pub RegionsLeave : Folded → ℕ → List ℕ → Verdict → List ℕ → Type 0
+RegionsLeave f l names accepted left = Named (base f) (f .n) (f .N) (lambdaOf f) (deltaOf f) l left
+RegionsLeave f l names (refused number level involution dart) left = left ≡ names

@@ -4,7 +4,7 @@ use mathlib.Core.List.{List, [], _∷_}
 use Prim.Native.Nat.{ℕ, zero, suc, _+_, _*_, max}
 use Rattle.maps.specs.Map.{Involutions}
 use Rattle.maps.specs.Mark.{across}
-use Rattle.maps.specs.Folded.{gone, survives}
+use Rattle.maps.specs.Folded.{gone, survives, Folded, base, lambdaOf, deltaOf}
 
 -- Scope: 'Since which level'. One more than the largest Λ of the darts, or 0 if there is none.
 unfoldable pub sinceOf : (ℕ → ℕ) → List ℕ → ℕ
@@ -16,7 +16,7 @@ unfoldable pub largest : (ℕ → ℕ) → ℕ → ℕ
 largest f zero = 0
 largest f (suc m) = max (largest f m) (f m)
 
--- Direct walk of dart b at level l by involution i.
+-- Direct walks at level l.
 module _ (a : Involutions) (N : ℕ) (Λ Δ : ℕ → ℕ) (l : ℕ) where
   -- Scope: 'Direct walk'. The darts passed, in their order, by a walk that reads row t of dart d next and may read k entries.
   unfoldable pub trailFrom : ℕ → ℕ → ℕ → List ℕ
@@ -34,3 +34,7 @@ module _ (a : Involutions) (N : ℕ) (Λ Δ : ℕ → ℕ) (l : ℕ) where
   -- Scope: 'Since which level'. The largest over all readings of the level's survivors, 0 for a level with no darts.
   unfoldable pub latest : ℕ → ℕ
   latest n = largest (λ i. largest (λ b. cond (survives Λ l b) (since i b) 0) N) (suc n)
+
+-- Scope: 'Since which level'. Since which level the link of dart d by row i at level l stands, over what is lent.
+abbrev pub sinceAt : Folded → ℕ → ℕ → ℕ → ℕ
+sinceAt f l i d = since (base f) (f .N) (lambdaOf f) (deltaOf f) l i d

@@ -6,9 +6,9 @@ use lib.ListN.{length}
 use lib.Dec.{eqb}
 use Rattle.maps.specs.Verdict.{Verdict, accepted, refused, ifAccepted, _then_, scan}
 use Rattle.maps.specs.Sizes.{sizes, number4, number11, hasLength}
-use Rattle.maps.specs.Table.{entry, each, listed, absent, explicit}
-use Rattle.maps.specs.Folded.{survives}
-use Rattle.maps.specs.Walk.{Walked, ended, stopped, walk}
+use Rattle.maps.specs.Table.{listed, absent, explicit}
+use Rattle.maps.specs.Folded.{survives, Folded, base, lambdaOf, deltaOf}
+use Rattle.maps.specs.Walk.{Walked, ended, stopped, walkAt}
 use Rattle.maps.specs.Trail.{latest}
 use Rattle.maps.specs.Cost.{cost}
 use Rattle.maps.specs.MarksBack.{atMarks8}
@@ -23,30 +23,28 @@ abbrev pub dartOf : Walked → ℕ
 dartOf (ended row dart count) = dart
 dartOf (stopped number row dart) = 0
 
-module _ (n N h : ℕ) (rows lambda delta : List ℕ) (l : ℕ) (table : List ℕ) where
-  -- Scope: 'Direct walk'. The walk of dart d by row i, over what is lent.
-  abbrev pub walkAt : ℕ → ℕ → Walked
-  walkAt i d = walk (entry N rows) n N h (each lambda) (each delta) l i d
+-- Scope: 'Unfold a level'. Only survivors begin a walk.
+unfoldable pub atWalk : Folded → ℕ → ℕ → ℕ → Verdict
+atWalk f l i d = elim (survives (lambdaOf f) l d) [ true ↦ walkVerdict l (walkAt f l i d) | false ↦ accepted ]
 
-  -- Scope: 'Unfold a level'. Only survivors begin a walk.
-  unfoldable pub atWalk : ℕ → ℕ → Verdict
-  atWalk i d = elim (survives (each lambda) l d) [ true ↦ walkVerdict l (walkAt i d) | false ↦ accepted ]
+module _ (f : Folded) (l : ℕ) (table : List ℕ) where
+  open Folded f using (n, N, h, rows, lambda, delta)
 
   -- Scope: 'Unfold a level'. Sizes and lengths, then 11, 8 over all darts, and the walks by involution, then dart.
   unfoldable pub unfoldLent : Verdict
   unfoldLent =
       sizes n N h
       then (number4 (hasLength rows (suc n * N) && (hasLength lambda N && (hasLength delta N && hasLength table (suc n * N))))
-      then (number11 h l 0 0 then (scan N (atMarks8 n N h lambda delta l table)
-      then scan (suc n) (λ i. scan N (atWalk i)))))
+      then (number11 h l 0 0 then (scan N (atMarks8 n h (lambdaOf f) (deltaOf f) l)
+      then scan (suc n) (λ i. scan N (atWalk f l i)))))
 
   -- Scope: 'Unfold a level'. The sum of all counts; 0 in a refusal.
   unfoldable pub unfoldTotal : ℕ
-  unfoldTotal = ifAccepted unfoldLent (cost (entry N rows) n N h (each lambda) (each delta) l) 0
+  unfoldTotal = ifAccepted unfoldLent (cost (base f) n N h (lambdaOf f) (deltaOf f) l) 0
 
   -- Scope: 'Since which level'. The largest over the level's readings, 0 in a refusal.
   unfoldable pub unfoldSince : ℕ
-  unfoldSince = ifAccepted unfoldLent (latest (entry N rows) N (each lambda) (each delta) l n) 0
+  unfoldSince = ifAccepted unfoldLent (latest (base f) N (lambdaOf f) (deltaOf f) l n) 0
 
   -- Scope: 'Left behind'. After 5, 14 or 15 the table is 65,535 throughout; after any other number as found.
   abbrev pub unfolded : Verdict → List ℕ → List ℕ
@@ -55,4 +53,4 @@ module _ (n N h : ℕ) (rows lambda delta : List ℕ) (l : ℕ) (table : List �
 
   -- Scope: 'Unfold a level'. What is left in the table; accepted, the explicit level.
   unfoldable pub unfoldLeaves : List ℕ
-  unfoldLeaves = unfolded unfoldLent (explicit (λ i d. dartOf (walkAt i d)) n N (survives (each lambda) l))
+  unfoldLeaves = unfolded unfoldLent (explicit (λ i d. dartOf (walkAt f l i d)) n N (survives (lambdaOf f) l))

@@ -4,7 +4,7 @@ use Prim.Native.Nat.{ℕ, zero, suc, _+_, _*_}
 use lib.Dec.{ltb}
 use Rattle.maps.specs.Map.{Involutions}
 use Rattle.maps.specs.Mark.{canPass, across}
-use Rattle.maps.specs.Folded.{gone, refusedMarks}
+use Rattle.maps.specs.Folded.{gone, refusedMarks, Folded, base, lambdaOf, deltaOf}
 
 -- Scope: 'Direct walk'. How a walk ends: by the row read last, at a dart, with the number of base entries read; or refused, with number, row and dart.
 pub data Walked : Type 0 where
@@ -39,3 +39,7 @@ module _ (a : Involutions) (n N h : ℕ) (Λ Δ : ℕ → ℕ) (l i b : ℕ) whe
   -- Scope: 'Direct walk'. The walk begins with row i of dart b, and may read 1 + 2N entries.
   unfoldable pub walk : Walked
   walk = walkFrom (1 + 2 * N) i b 0
+
+-- Scope: 'Direct walk'. The walk of dart d by row i at level l, over what is lent.
+abbrev pub walkAt : Folded → ℕ → ℕ → ℕ → Walked
+walkAt f l i d = walk (base f) (f .n) (f .N) (f .h) (lambdaOf f) (deltaOf f) l i d

@@ -5,6 +5,7 @@ use lib.ListN.{length, take, drop}
 use lib.Dec.{leb}
 use Rattle.maps.specs.Verdict.{Verdict, ifAccepted, _then_}
 use Rattle.maps.specs.Sizes.{number4}
+use Rattle.maps.specs.Folded.{Folded}
 use Rattle.maps.specs.CheckPyramid.{checkLent, checkLeaves}
 
 -- Scope: 'Record'. One-byte tag, two-byte length low byte first, body.
@@ -31,23 +32,23 @@ written n h N rows lambda delta =
     fieldWritten 0x01 (n ∷ h ∷ inTwoBytes (N ∷ []))
     ++ (rowsWritten N rows (suc n) ++ (fieldWritten 0x30 lambda ++ fieldWritten 0x31 delta))
 
-module _ (n N h : ℕ) (rows lambda delta table bytes : List ℕ) where
-  -- Scope: 'Write a record'. The record of what is lent.
-  abbrev pub recordOf : List ℕ
-  recordOf = written n h N rows lambda delta
+-- Scope: 'Write a record'. The record of what is lent.
+abbrev pub recordOf : Folded → List ℕ
+recordOf f = written (f .n) (f .h) (f .N) (f .rows) (f .lambda) (f .delta)
 
+module _ (f : Folded) (table bytes : List ℕ) where
   -- Scope: 'Write a record'. The check's tests, then 4: the buffer is too short for the record.
   unfoldable pub writeLent : Verdict
-  writeLent = checkLent n N h rows lambda delta table then number4 (leb (length recordOf) (length bytes))
+  writeLent = checkLent f table then number4 (leb (length (recordOf f)) (length bytes))
 
   -- Scope: 'Write a record'. How many bytes are written; refused, 0.
   unfoldable pub writeLength : ℕ
-  writeLength = ifAccepted writeLent (length recordOf) 0
+  writeLength = ifAccepted writeLent (length (recordOf f)) 0
 
   -- Scope: 'Write a record'. What is left in the lent table: what the check leaves, also after 4 of the buffer.
   unfoldable pub writeTable : List ℕ
-  writeTable = checkLeaves n N h rows lambda delta table
+  writeTable = checkLeaves f table
 
   -- Scope: 'Write a record'. What is left in the buffer: the record, the bytes behind its end as found; refused, all as found.
   unfoldable pub writeLeaves : List ℕ
-  writeLeaves = ifAccepted writeLent (recordOf ++ drop (length recordOf) bytes) bytes
+  writeLeaves = ifAccepted writeLent (recordOf f ++ drop (length (recordOf f)) bytes) bytes

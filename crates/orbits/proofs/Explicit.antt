@@ -12,7 +12,8 @@ use Rattle.maps.specs.Map.{Valid}
 use Rattle.maps.specs.Orbit.{Orbit, here, further}
 use Rattle.maps.specs.Table.{entry}
 use Rattle.maps.specs.CheckBase.{present}
-use Rattle.facts.proofs.Checks.{There, map-sound}
+use Rattle.maps.specs.Explicit.{There}
+use Rattle.facts.proofs.Checks.{map-sound}
 use Rattle.orbits.specs.Choices.{uses, chosen}
 use Rattle.orbits.specs.Search.{has, Room}
 use Rattle.orbits.specs.Orbits.{Closed, Ready, Added}
@@ -21,7 +22,7 @@ use Rattle.orbits.specs.Explicit.{ExplicitLevel}
 
 -- the darts present
 abbrev pub Present : ℕ → ℕ → List ℕ → ℕ → Type 0
-Present n N table = There (entry N table) n N (present N table)
+Present n N table = There N (present N table)
 
 -- what is in a stored set has its place
 has-low : (list : List Bool) (d : ℕ) → has list d ≡ true → d < length list

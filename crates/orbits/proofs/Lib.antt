@@ -5,3 +5,4 @@ mod Searches
 pub mod Decided
 pub mod Cells
 pub mod Explicit
+pub mod OrbitLaws

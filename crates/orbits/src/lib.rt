@@ -1,5 +1,6 @@
 // The orbit of a dart, by rows that are chosen for each dart: a search with a queue, in which each dart stands once. Assumes nothing.
 use answers::Dim;
+use answers::ROOM;
 ghost use mathlib.Core.Path.{_≡_};
 ghost use mathlib.Core.Bool.{true, false, not};
 ghost use Prim.Native.Nat.{ℕ, suc, _≤_, _<_};
@@ -10,6 +11,9 @@ ghost use Rattle.answers.specs.Rows.{Rows};
 ghost use Rattle.orbits.specs.Choices.{uses as usesOf, chosen};
 ghost use Rattle.orbits.specs.Search.{has, state, Room, Stored, pushed, spread};
 ghost use Rattle.orbits.specs.Orbits.{Ready, Found};
+
+// The choice of every row, a bit for each.
+pub const ALL_ROWS: u8 = 31;
 
 // Does a choice use a row?
 pub fn uses(choice: u8, row: Dim) -> bool
@@ -24,7 +28,7 @@ pub fn all_but(row: Dim) -> u8
     requires { ⌜ row .0 < 5 ⌝ }
     ensures { λ r. ⌜ ((j : ℕ) → j < 5 → usesOf r j ≡ not (eqb j (row .0))) ⌝ }
 {
-    31 - (1u8 << row.0)
+    ALL_ROWS - (1u8 << row.0)
 }
 
 // The choice of every row but one and the next.
@@ -32,11 +36,11 @@ pub fn all_but_two(row: Dim) -> u8
     requires { ⌜ row .0 < 4 ⌝ }
     ensures { λ r. ⌜ ((j : ℕ) → j < 5 → usesOf r j ≡ besides (row .0) j) ⌝ }
 {
-    31 - (3u8 << row.0)
+    ALL_ROWS - (3u8 << row.0)
 }
 
 // Puts dart d in the queue, unless it is reached already; the queue's new end.
-fn push(d: u16, reached: &mut [bool; 4096], queue: &mut [u16; 4096], tail: usize) -> usize
+fn push(d: u16, reached: &mut [bool; ROOM], queue: &mut [u16; ROOM], tail: usize) -> usize
     requires { ⌜ (d < 4096) × (has (now reached) d ≡ false → tail < 4096) ⌝ }
     ensures { λ r. ⌜ state (now (reached .exit)) (now (queue .exit)) r ≡ pushed (state (now (reached .entry)) (now (queue .entry)) tail) d ⌝ }
 {
@@ -56,8 +60,8 @@ fn push_neighbours(
     table: &[u16],
     choice: u8,
     d: u16,
-    reached: &mut [bool; 4096],
-    queue: &mut [u16; 4096],
+    reached: &mut [bool; ROOM],
+    queue: &mut [u16; ROOM],
     tail: usize,
 ) -> usize
     requires { ⌜ Rows (n .0) darts (now table) × (d < darts) × ((j : ℕ) → j ≤ n .0 → usesOf choice j ≡ true → entry darts (now table) j d < darts) × Stored darts (state (now reached) (now queue) tail) ⌝ }
@@ -79,10 +83,10 @@ pub fn orbit(
     n: Dim,
     darts: u16,
     table: &[u16],
-    choices: &[u8; 4096],
+    choices: &[u8; ROOM],
     start: u16,
-    reached: &mut [bool; 4096],
-    queue: &mut [u16; 4096],
+    reached: &mut [bool; ROOM],
+    queue: &mut [u16; ROOM],
 ) -> usize
     requires { ⌜ Ready (n .0) darts (now table) (chosen (now choices)) start (has (now reached)) × Room (now reached) (now queue) ⌝ }
     ensures { λ r. ⌜ Found (n .0) darts (entry darts (now (table .entry))) (chosen (now (choices .entry))) start (state (now (reached .entry)) (now (queue .entry)) 0) (state (now (reached .exit)) (now (queue .exit)) r) ⌝ }

@@ -3,6 +3,7 @@ use mathlib.Core.Path.{refl, ap, sym, _∙_}
 use contract.Lifetimes.{Lfts}
 use denote.Ref.{now}
 use Rattle.maps.specs.Census.{censusLent}
+use Rattle.maps.specs.Folded.{ofParts}
 use Rattle.zompelgors.proofs.zg_version.Reads as version
 use Rattle.zompelgors.proofs.zg_check_base.Reads as check-base
 use Rattle.zompelgors.proofs.zg_check.Reads as check
@@ -84,7 +85,7 @@ zg-decimation-one κs = one-outcome _ _ _ (λ a r. r) (λ r. r) (λ a r. refl) _
 -- the table, the counts and the sums, of which the contract says what they count
 pub zg-census-one : (κs : Lfts 6) → OneOutcome (census.Learnt κs) (λ r. r) (λ s. three (now (s .1 .1 .1 .1 .1 .1 .0)) (now (s .1 .1 .1 .1 .1 .1 .1 .0)) (now (s .1 .1 .1 .1 .1 .1 .1 .1 .0)))
 zg-census-one κs a r r′ s s′ c c′ =
-    let w = put-leaves-one (a .0) (a .1 .0) (a .1 .1 .0) (now (a .1 .1 .1 .0)) (now (a .1 .1 .1 .1 .0)) (now (a .1 .1 .1 .1 .1 .0)) (censusLent (a .0) (a .1 .0) (a .1 .1 .0) (now (a .1 .1 .1 .0)) (now (a .1 .1 .1 .1 .0)) (now (a .1 .1 .1 .1 .1 .0)) (now (a .1 .1 .1 .1 .1 .1 .0)) (now (a .1 .1 .1 .1 .1 .1 .1 .0)) (now (a .1 .1 .1 .1 .1 .1 .1 .1 .0))) (now (a .1 .1 .1 .1 .1 .1 .1 .0)) (now (a .1 .1 .1 .1 .1 .1 .1 .1 .0)) _ _ _ _ (c .1 .1) (c′ .1 .1) in
+    let w = put-leaves-one (a .0) (a .1 .0) (a .1 .1 .0) (now (a .1 .1 .1 .0)) (now (a .1 .1 .1 .1 .0)) (now (a .1 .1 .1 .1 .1 .0)) (censusLent (ofParts (a .0) (a .1 .0) (a .1 .1 .0) (now (a .1 .1 .1 .0)) (now (a .1 .1 .1 .1 .0)) (now (a .1 .1 .1 .1 .1 .0))) (now (a .1 .1 .1 .1 .1 .1 .0)) (now (a .1 .1 .1 .1 .1 .1 .1 .0)) (now (a .1 .1 .1 .1 .1 .1 .1 .1 .0))) (now (a .1 .1 .1 .1 .1 .1 .1 .0)) (now (a .1 .1 .1 .1 .1 .1 .1 .1 .0)) _ _ _ _ (c .1 .1) (c′ .1 .1) in
     (c .0 ∙ sym (c′ .0), same-three (c .1 .0 ∙ sym (c′ .1 .0)) (w .0) (w .1))
 
 -- the base rows

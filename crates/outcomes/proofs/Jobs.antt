@@ -4,13 +4,14 @@ use contract.Lifetimes.{Lfts}
 use denote.Ref.{now}
 use Rattle.maps.specs.CheckPyramid.{checkLent}
 use Rattle.maps.specs.Census.{censusLent}
+use Rattle.maps.specs.Folded.{ofParts}
 use Rattle.answers.specs.Numbers.{verdictOf, said}
 use Rattle.questions.specs.Answers.{valueOf}
 use Rattle.records.specs.Answers.{takenOf}
 use Rattle.writing.specs.Answers.{writtenOf}
 use Rattle.shrinking.specs.Answers.{factorOf}
 use Rattle.rebasing.specs.Answers.{rebasedOf}
-use Rattle.answers.proofs.sizes.Reads as sizes
+use Rattle.answers.proofs.in_range.Reads as in-range
 use Rattle.answers.proofs.both.Reads as both
 use Rattle.answers.proofs.row_fits.Reads as row-fits
 use Rattle.answers.proofs.entries.Reads as entries
@@ -20,6 +21,11 @@ use Rattle.answers.proofs.lent.Reads as lent
 use Rattle.answers.proofs.asked.Reads as asked
 use Rattle.answers.proofs.is_mark.Reads as is-mark
 use Rattle.answers.proofs.has_beyond.Reads as has-beyond
+use Rattle.answers.proofs.contracts.Reads as contracts
+use Rattle.answers.proofs.removes.Reads as removes
+use Rattle.answers.proofs.same_mark.Reads as same-mark
+use Rattle.answers.proofs.is_gone.Reads as is-gone
+use Rattle.answers.proofs.in_kernel.Reads as in-kernel
 use Rattle.answers.proofs.marks_refused.Reads as marks-refused
 use Rattle.answers.proofs.marks_refusal.Reads as marks-refusal
 use Rattle.answers.proofs.numbers_of.Reads as numbers-of
@@ -62,17 +68,17 @@ pub check-explicit-one : (κs : Lfts 1) → OneOutcome (check-explicit.Learnt κ
 check-explicit-one κs = one-outcome _ _ _ (λ a. verdictOf) checkFrom (λ a. check-told) _ _ (λ a r s c. (c, refl))
 
 -- the table
-pub check-one : (κs : Lfts 4) → OneOutcome (check.Learnt κs) (λ r. r) (λ s. now (s .1 .1 .1 .1 .1 .1 .0))
+pub check-one : (κs : Lfts 4) → OneOutcome (check.Learnt κs) (λ r. r) (λ s. now (s .1 .1 .1 .1 .0))
 check-one κs = one-outcome _ _ _ (λ a. verdictOf) checkFrom (λ a. check-told) _ _ (λ a r s c. c)
 
 -- Λ, Δ and the table
-pub add-one : (κs : Lfts 5) → OneOutcome (add.Learnt κs) (λ r. r) (λ s. three (now (s .1 .1 .1 .1 .0)) (now (s .1 .1 .1 .1 .1 .0)) (now (s .1 .1 .1 .1 .1 .1 .1 .0)))
+pub add-one : (κs : Lfts 5) → OneOutcome (add.Learnt κs) (λ r. r) (λ s. three (now (s .1 .1 .0)) (now (s .1 .1 .1 .0)) (now (s .1 .1 .1 .1 .1 .0)))
 add-one κs =
-    one-outcome _ _ _ (λ a. valuesOfAdded (a .1 .1 .0 .0)) addedFrom (λ a. added-told (a .1 .1 .0 .0)) _ _ (λ a r s c.
+    one-outcome _ _ _ (λ a. valuesOfAdded (a .0 .h .0)) addedFrom (λ a. added-told (a .0 .h .0)) _ _ (λ a r s c.
     (ap₂ (λ v h. (v, h)) (c .0) (c .1 .0), same-three (c .1 .1 .0) (c .1 .1 .1 .0) (c .1 .1 .1 .1)))
 
 -- the mark row
-pub marks-of-one : (κs : Lfts 3) → OneOutcome (marks-of.Learnt κs) (λ r. r) (λ s. now (s .1 .1 .1 .1 .1 .1 .0))
+pub marks-of-one : (κs : Lfts 3) → OneOutcome (marks-of.Learnt κs) (λ r. r) (λ s. now (s .1 .1 .1 .1 .0))
 marks-of-one κs = one-outcome _ _ _ (λ a. verdictOf) checkFrom (λ a. check-told) _ _ (λ a r s c. c)
 
 pub question-one : (κs : Lfts 3) → OneOutcome (question.Learnt κs) (λ r. r) nothing
@@ -85,7 +91,7 @@ pub read-by-levels-one : (κs : Lfts 3) → OneOutcome (by-levels.Learnt κs) (�
 read-by-levels-one κs = one-outcome _ _ _ (λ a. valueOf) readingFrom (λ a. reading-told) _ _ (λ a r s c. (c, refl))
 
 -- the table
-pub unfold-one : (κs : Lfts 4) → OneOutcome (unfold-level.Learnt κs) (λ r. r) (λ s. now (s .1 .1 .1 .1 .1 .1 .1 .0))
+pub unfold-one : (κs : Lfts 4) → OneOutcome (unfold-level.Learnt κs) (λ r. r) (λ s. now (s .1 .1 .1 .1 .1 .0))
 unfold-one κs = one-outcome _ _ _ (λ a. valuesOfTotal) totalFrom (λ a. total-told) _ _ (λ a r s c. ((λ k. (c .0 k, c .1 .0 k, c .1 .1 .0 k)), c .1 .1 .1))
 
 -- A row is fixed in what it holds. Which of two slices an empty part is of is not said.
@@ -121,19 +127,19 @@ pub write-one : (κs : Lfts 5) → OneOutcome (write.Learnt κs) (λ r. r) (λ s
 write-one κs = one-outcome _ _ _ (λ a. writtenOf) writtenFrom (λ a. written-told) _ _ (λ a r s c. (c .0, same-pair (c .1 .0) (c .1 .1)))
 
 -- the table
-pub decimation-one : (κs : Lfts 4) → OneOutcome (decimation.Learnt κs) (λ r. r) (λ s. now (s .1 .1 .1 .1 .1 .1 .0))
+pub decimation-one : (κs : Lfts 4) → OneOutcome (decimation.Learnt κs) (λ r. r) (λ s. now (s .1 .1 .1 .1 .0))
 decimation-one κs = one-outcome _ _ _ (λ a. factorOf) factorFrom (λ a. factor-told) _ _ (λ a r s c. c)
 
 -- the table, the counts and the sums, in arrays
 pub census-one : (κs : Lfts 6) → OneOutcome (census.Learnt κs) (λ r. r) (λ s. three (now (s .1 .1 .1 .1 .1 .1 .0)) (now (s .1 .1 .1 .1 .1 .1 .1 .0)) (now (s .1 .1 .1 .1 .1 .1 .1 .1 .0)))
 census-one κs a r r′ s s′ c c′ =
-    let w = leaves-one (a .0 .0) (a .1 .0) (a .1 .1 .0 .0) (now (a .1 .1 .1 .0)) (now (a .1 .1 .1 .1 .0)) (now (a .1 .1 .1 .1 .1 .0)) (checkLent (a .0 .0) (a .1 .0) (a .1 .1 .0 .0) (now (a .1 .1 .1 .0)) (now (a .1 .1 .1 .1 .0)) (now (a .1 .1 .1 .1 .1 .0)) (now (a .1 .1 .1 .1 .1 .1 .0))) (now (a .1 .1 .1 .1 .1 .1 .1 .0)) (now (a .1 .1 .1 .1 .1 .1 .1 .1 .0)) _ _ _ _ (c .1 .1) (c′ .1 .1) in
+    let w = leaves-one (a .0 .0) (a .1 .0) (a .1 .1 .0 .0) (now (a .1 .1 .1 .0)) (now (a .1 .1 .1 .1 .0)) (now (a .1 .1 .1 .1 .1 .0)) (checkLent (ofParts (a .0 .0) (a .1 .0) (a .1 .1 .0 .0) (now (a .1 .1 .1 .0)) (now (a .1 .1 .1 .1 .0)) (now (a .1 .1 .1 .1 .1 .0))) (now (a .1 .1 .1 .1 .1 .1 .0))) (now (a .1 .1 .1 .1 .1 .1 .1 .0)) (now (a .1 .1 .1 .1 .1 .1 .1 .1 .0)) _ _ _ _ (c .1 .1) (c′ .1 .1) in
     (sym (check-told r) ∙ ap checkFrom (c .0 ∙ sym (c′ .0)) ∙ check-told r′, same-three (c .1 .0 ∙ sym (c′ .1 .0)) (w .0) (w .1))
 
 -- and in slices
 pub census-into-one : (κs : Lfts 6) → OneOutcome (census-into.Learnt κs) (λ r. r) (λ s. three (now (s .1 .1 .1 .1 .1 .1 .0)) (now (s .1 .1 .1 .1 .1 .1 .1 .0)) (now (s .1 .1 .1 .1 .1 .1 .1 .1 .0)))
 census-into-one κs a r r′ s s′ c c′ =
-    let w = put-leaves-one (a .0 .0) (a .1 .0) (a .1 .1 .0 .0) (now (a .1 .1 .1 .0)) (now (a .1 .1 .1 .1 .0)) (now (a .1 .1 .1 .1 .1 .0)) (censusLent (a .0 .0) (a .1 .0) (a .1 .1 .0 .0) (now (a .1 .1 .1 .0)) (now (a .1 .1 .1 .1 .0)) (now (a .1 .1 .1 .1 .1 .0)) (now (a .1 .1 .1 .1 .1 .1 .0)) (now (a .1 .1 .1 .1 .1 .1 .1 .0)) (now (a .1 .1 .1 .1 .1 .1 .1 .1 .0))) (now (a .1 .1 .1 .1 .1 .1 .1 .0)) (now (a .1 .1 .1 .1 .1 .1 .1 .1 .0)) _ _ _ _ (c .1 .1) (c′ .1 .1) in
+    let w = put-leaves-one (a .0 .0) (a .1 .0) (a .1 .1 .0 .0) (now (a .1 .1 .1 .0)) (now (a .1 .1 .1 .1 .0)) (now (a .1 .1 .1 .1 .1 .0)) (censusLent (ofParts (a .0 .0) (a .1 .0) (a .1 .1 .0 .0) (now (a .1 .1 .1 .0)) (now (a .1 .1 .1 .1 .0)) (now (a .1 .1 .1 .1 .1 .0))) (now (a .1 .1 .1 .1 .1 .1 .0)) (now (a .1 .1 .1 .1 .1 .1 .1 .0)) (now (a .1 .1 .1 .1 .1 .1 .1 .1 .0))) (now (a .1 .1 .1 .1 .1 .1 .1 .0)) (now (a .1 .1 .1 .1 .1 .1 .1 .1 .0)) _ _ _ _ (c .1 .1) (c′ .1 .1) in
     (sym (check-told r) ∙ ap checkFrom (c .0 ∙ sym (c′ .0)) ∙ check-told r′, same-three (c .1 .0 ∙ sym (c′ .1 .0)) (w .0) (w .1))
 
 -- the base rows, which are those that the two rows yield
@@ -148,9 +154,9 @@ export-one κs a r r′ s s′ c c′ =
     (sym (check-told r) ∙ ap checkFrom (e .0) ∙ check-told r′, same-pair (e .1) (e .2))
 
 -- the table, and the name row, of which the contract says for each dart what its name is
-pub name-regions-one : (κs : Lfts 5) → OneOutcome (name-regions.Learnt κs) (λ r. r) (λ s. pair (now (s .1 .1 .1 .1 .1 .1 .0)) (now (s .1 .1 .1 .1 .1 .1 .1 .1 .0)))
+pub name-regions-one : (κs : Lfts 5) → OneOutcome (name-regions.Learnt κs) (λ r. r) (λ s. pair (now (s .1 .1 .1 .1 .0)) (now (s .1 .1 .1 .1 .1 .0)))
 name-regions-one κs a r r′ s s′ c c′ =
-    (sym (check-told r) ∙ ap checkFrom (c .0 ∙ sym (c′ .0)) ∙ check-told r′, same-pair (c .1 .0 ∙ sym (c′ .1 .0)) (naming-same (a .0 .0) (a .1 .0) (a .1 .1 .0 .0) (now (a .1 .1 .1 .0)) (now (a .1 .1 .1 .1 .0)) (now (a .1 .1 .1 .1 .1 .0)) (now (a .1 .1 .1 .1 .1 .1 .0)) (a .1 .1 .1 .1 .1 .1 .1 .0 .0) (now (a .1 .1 .1 .1 .1 .1 .1 .1 .0)) _ _ (c .1 .1) (c′ .1 .1)))
+    (sym (check-told r) ∙ ap checkFrom (c .0 ∙ sym (c′ .0)) ∙ check-told r′, same-pair (c .1 .0 ∙ sym (c′ .1 .0)) (naming-same (a .0 .sizes .n .0) (a .0 .sizes .darts) (a .0 .sizes .h .0) (now (a .1 .0)) (now (a .1 .1 .0)) (now (a .1 .1 .1 .0)) (now (a .1 .1 .1 .1 .0)) (a .0 .level .0) (now (a .1 .1 .1 .1 .1 .0)) _ _ (c .1 .1) (c′ .1 .1)))
 
 -- rows, Λ, Δ, the table and the buffer
 pub convert-one : (κs : Lfts 6) → OneOutcome (convert.Learnt κs) (λ r. r) (λ s. five (now (s .1 .0)) (now (s .1 .1 .0)) (now (s .1 .1 .1 .0)) (now (s .1 .1 .1 .1 .0)) (now (s .1 .1 .1 .1 .1 .0)))
@@ -169,8 +175,8 @@ pub rebase-one : (κs : Lfts 5) → OneOutcome (rebase.Learnt κs) (λ r. r) (λ
 rebase-one κs = one-outcome _ _ _ (λ a. rebasedOf (a .1 .0) (a .1 .1 .0 .0)) rebasedFrom (λ a. rebased-told (a .1 .0) (a .1 .1 .0 .0)) _ _ (λ a r s c. (c .0, same-five (c .1 .0) (c .1 .1 .0) (c .1 .1 .1 .0) (c .1 .1 .1 .1 .0) (c .1 .1 .1 .1 .1)))
 
 -- what jobs share
-pub sizes-one : (κs : Lfts 0) → OneOutcome (sizes.Learnt κs) (λ r. r) nothing
-sizes-one κs = one-outcome _ _ _ (λ a. verdictOf) checkFrom (λ a. check-told) _ _ (λ a r s c. (c, refl))
+pub in-range-one : (κs : Lfts 0) → OneOutcome (in-range.Learnt κs) (λ r. r) nothing
+in-range-one κs = one-outcome _ _ _ (λ a. verdictOf) checkFrom (λ a. check-told) _ _ (λ a r s c. (c, refl))
 
 pub marks-refused-one : (κs : Lfts 0) → OneOutcome (marks-refused.Learnt κs) (λ r. r) nothing
 marks-refused-one κs = one-outcome _ _ _ (λ a r. r) (λ r. r) (λ a r. refl) _ _ (λ a r s c. (c, refl))
@@ -207,3 +213,18 @@ is-mark-one κs = one-outcome _ _ _ (λ a r. r) (λ r. r) (λ a r. refl) _ _ (λ
 
 pub has-beyond-one : (κs : Lfts 0) → OneOutcome (has-beyond.Learnt κs) (λ r. r) nothing
 has-beyond-one κs = one-outcome _ _ _ (λ a r. r) (λ r. r) (λ a r. refl) _ _ (λ a r s c. (c, refl))
+
+pub contracts-one : (κs : Lfts 0) → OneOutcome (contracts.Learnt κs) (λ r. r) nothing
+contracts-one κs = one-outcome _ _ _ (λ a r. r) (λ r. r) (λ a r. refl) _ _ (λ a r s c. (c, refl))
+
+pub removes-one : (κs : Lfts 0) → OneOutcome (removes.Learnt κs) (λ r. r) nothing
+removes-one κs = one-outcome _ _ _ (λ a r. r) (λ r. r) (λ a r. refl) _ _ (λ a r s c. (c, refl))
+
+pub same-mark-one : (κs : Lfts 0) → OneOutcome (same-mark.Learnt κs) (λ r. r) nothing
+same-mark-one κs = one-outcome _ _ _ (λ a r. r) (λ r. r) (λ a r. refl) _ _ (λ a r s c. (c, refl))
+
+pub is-gone-one : (κs : Lfts 0) → OneOutcome (is-gone.Learnt κs) (λ r. r) nothing
+is-gone-one κs = one-outcome _ _ _ (λ a r. r) (λ r. r) (λ a r. refl) _ _ (λ a r s c. (c, refl))
+
+pub in-kernel-one : (κs : Lfts 0) → OneOutcome (in-kernel.Learnt κs) (λ r. r) nothing
+in-kernel-one κs = one-outcome _ _ _ (λ a r. r) (λ r. r) (λ a r. refl) _ _ (λ a r s c. (c, refl))

@@ -3,6 +3,7 @@ use answers::Check;
 use answers::Dim;
 use answers::Level;
 use answers::Refusal;
+use answers::Sizes;
 ghost use mathlib.Core.Path.{_≡_};
 ghost use Prim.Native.Nat.{_+_, _/_, _<_};
 ghost use lib.ListN.{length};
@@ -25,7 +26,12 @@ fn base_refused(n: Dim, darts: u16, rows: &[u16], edges: usize, vertices: usize)
         answers::row_fits(half, vertices),
     );
     let fit = answers::both(answers::rows_fit(Dim(2), darts, rows.len()), two);
-    if let Check::Refused(r) = answers::lent(Dim(2), darts, Level(0), fit) {
+    let sizes = Sizes {
+        n: Dim(2),
+        h: Level(0),
+        darts,
+    };
+    if let Check::Refused(r) = answers::lent(sizes, fit) {
         return Check::Refused(r);
     }
     bases::check_base(Dim(2), darts, rows)

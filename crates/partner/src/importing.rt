@@ -2,6 +2,7 @@
 use answers::Check;
 use answers::Dim;
 use answers::Level;
+use answers::PARTNER_DARTS;
 use answers::Refusal;
 ghost use mathlib.Core.Path.{_≡_};
 ghost use mathlib.Core.Bool.{false, _&&_};
@@ -22,7 +23,7 @@ fn sizes(darts: u16, edges: usize, vertices: usize, rows: usize) -> Check
     if darts < 1 {
         return Check::Refused(Refusal::Darts);
     }
-    if 2048 < darts {
+    if PARTNER_DARTS < darts {
         return Check::Refused(Refusal::Darts);
     }
     let fit = answers::both(vertices == darts as usize, rows == 6 * darts as usize);
@@ -80,7 +81,7 @@ fn two_to_one(darts: u16, vertices: &[u16]) -> Check
     requires { ⌜ Row darts (now vertices) × (darts ≤ 2048) ⌝ }
     ensures { λ r. ⌜ verdictOf r ≡ number21 darts (now (vertices .entry)) ⌝ }
 {
-    let mut had = [false; 2048];
+    let mut had = [false; PARTNER_DARTS as usize];
     for d in 0..darts {
         let place = d as usize;
         let image = vertices[place] as usize;

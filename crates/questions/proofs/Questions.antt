@@ -1,7 +1,6 @@
 -- Laws of what is tested before a walk. Assumes nothing.
 use mathlib.Core.Path.{_≡_, sym, _∙_}
 use mathlib.Core.Bool.{Bool, true, false, _&&_, not}
-use mathlib.Core.List.{List}
 use Prim.Native.Nat.{ℕ, suc, _*_, _≤_, _<_}
 use lib.Dec.{ltb}
 use lib.ListN.{length}
@@ -9,7 +8,7 @@ use borrow.Author.Tests.{ltb-true, ltb-false, lt-ltb, le-ltb, eqb-true, not-fals
 use Rattle.maps.specs.Verdict.{Verdict, accepted, refused, when, _then_}
 use Rattle.maps.specs.Sizes.{sizes, number4, number11, number13, hasLength}
 use Rattle.maps.specs.Table.{each}
-use Rattle.maps.specs.Folded.{gone, refusedMarks}
+use Rattle.maps.specs.Folded.{gone, refusedMarks, Folded}
 use Rattle.maps.specs.Read.{question}
 use Rattle.laws.proofs.Verdicts.{then-accepted, when-accepted, then-three}
 use Rattle.laws.proofs.Sizes.{lent-sized, both-equal}
@@ -20,14 +19,15 @@ use Rattle.answers.proofs.Refusals.{refused-first}
 use Rattle.questions.specs.Lent.{Lent}
 
 -- base rows and marks have the exact lengths
-abbrev pub pyramidFits : ℕ → ℕ → List ℕ → List ℕ → List ℕ → Bool
-pyramidFits n N rows lambda delta = hasLength rows (suc n * N) && (hasLength lambda N && hasLength delta N)
+abbrev pub pyramidFits : Folded → Bool
+pyramidFits f = hasLength (f .rows) (suc (f .n) * f .N) && (hasLength (f .lambda) (f .N) && hasLength (f .delta) (f .N))
 
 -- what accepted sizes, lengths and level tell
-pub asked-lent : (n N h : ℕ) (rows lambda delta : List ℕ) (l i d : ℕ) → askedOf n N h (pyramidFits n N rows lambda delta) l i d ≡ accepted → Lent n N h rows lambda delta l
+pub asked-lent : (f : Folded) (l i d : ℕ) → askedOf (f .n) (f .N) (f .h) (pyramidFits f) l i d ≡ accepted → Lent f l
 unfolding number11
-asked-lent n N h rows lambda delta l i d e =
-    let fit = pyramidFits n N rows lambda delta in
+asked-lent f l i d e =
+    let record { n = n; N = N; h = h; rows = rows; lambda = lambda; delta = delta } = f in
+    let fit = pyramidFits f in
     let r = then-accepted (lentOf n N h fit) (number11 h l i d) e in
     let s = lent-sized n N h fit (r .0) in
     let t = both-equal (length rows) (suc n * N) (hasLength lambda N && hasLength delta N) (s .1) in
@@ -35,15 +35,18 @@ asked-lent n N h rows lambda delta l i d e =
     record {
       dimension = s .0 .dimension;
       darts = s .0 .darts;
+      height = s .0 .height;
       rows-length = t .0;
       lambda-length = u .0;
       delta-length = eqb-true (length delta) N (u .1);
       level = ltb-false h l (when-accepted (ltb h l) 11 l i d (r .1));
     }
 
-module _ (n N h : ℕ) (rows lambda delta : List ℕ) (l i d : ℕ) where
+module _ (f : Folded) (l i d : ℕ) where
+  open Folded f using (n, N, h, lambda, delta)
+
   abbrev first : Verdict
-  first = askedOf n N h (pyramidFits n N rows lambda delta) l i d
+  first = askedOf n N h (pyramidFits f) l i d
 
   -- the tests that come after them
   abbrev start : Verdict
@@ -53,15 +56,15 @@ module _ (n N h : ℕ) (rows lambda delta : List ℕ) (l i d : ℕ) where
       then (when (refusedMarks n h (each lambda d) (each delta d)) (refused 8 l i d)
       then when (gone (each lambda) l d) (refused 12 l i d)))
 
-  question-is : question n N h rows lambda delta l i d ≡ first then start
+  question-is : question f l i d ≡ first then start
   unfolding question
-  question-is = then-three (sizes n N h) (number4 (pyramidFits n N rows lambda delta)) (number11 h l i d) start
+  question-is = then-three (sizes n N h) (number4 (pyramidFits f)) (number11 h l i d) start
 
-  pub question-refused : (r : Refusal) → refusalOf r ≡ first → refusalOf r ≡ question n N h rows lambda delta l i d
-  question-refused r e = refused-first (question n N h rows lambda delta l i d) first start question-is r e
+  pub question-refused : (r : Refusal) → refusalOf r ≡ first → refusalOf r ≡ question f l i d
+  question-refused r e = refused-first (question f l i d) first start question-is r e
 
   -- what an accepted question tells
-  pub question-walks : question n N h rows lambda delta l i d ≡ accepted → Lent n N h rows lambda delta l × (i ≤ n) × (d < N)
+  pub question-walks : question f l i d ≡ accepted → Lent f l × (i ≤ n) × (d < N)
   unfolding number13
   question-walks e =
       let marks = when (refusedMarks n h (each lambda d) (each delta d)) (refused 8 l i d) in
@@ -70,7 +73,7 @@ module _ (n N h : ℕ) (rows lambda delta : List ℕ) (l i d : ℕ) where
       let r = then-accepted first start (sym question-is ∙ e) in
       let t = then-accepted (number13 n l i d) (dart then (marks then on)) (r .1) in
       let u = then-accepted dart (marks then on) (t .1) in (
-        asked-lent n N h rows lambda delta l i d (r .0),
+        asked-lent f l i d (r .0),
         ltb-false n i (when-accepted (ltb n i) 13 l i d (t .0)),
         ltb-true d N (not-false (ltb d N) (when-accepted (not (ltb d N)) 12 l i d (u .0))),
       )
@@ -78,7 +81,7 @@ module _ (n N h : ℕ) (rows lambda delta : List ℕ) (l i d : ℕ) where
   -- sizes, lengths and level are accepted: what the tests after them give
   module _ (e : accepted ≡ first) where
     abbrev answer : Verdict
-    answer = question n N h rows lambda delta l i d
+    answer = question f l i d
 
     is-start : (v : Verdict) → start ≡ v → v ≡ answer
     is-start v f = sym f ∙ (rw (← e)) ∙ sym question-is

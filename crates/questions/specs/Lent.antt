@@ -1,14 +1,15 @@
 -- What a walk is lent. Assumes nothing: these are definitions.
 use mathlib.Core.Path.{_≡_}
-use mathlib.Core.List.{List}
 use Prim.Native.Nat.{ℕ, suc, _*_, _≤_}
 use lib.ListN.{length}
+use Rattle.maps.specs.Folded.{Folded}
 
 -- what every walk at level l is lent
-pub record Lent (n N h : ℕ) (rows lambda delta : List ℕ) (l : ℕ) : Type 0 where
-  pub dimension : n ≤ 4
-  pub darts : N ≤ 4096
-  pub rows-length : length rows ≡ suc n * N
-  pub lambda-length : length lambda ≡ N
-  pub delta-length : length delta ≡ N
-  pub level : l ≤ h
+pub record Lent (f : Folded) (l : ℕ) : Type 0 where
+  pub dimension : f .n ≤ 4
+  pub darts : f .N ≤ 4096
+  pub height : f .h ≤ 32
+  pub rows-length : length (f .rows) ≡ suc (f .n) * f .N
+  pub lambda-length : length (f .lambda) ≡ f .N
+  pub delta-length : length (f .delta) ≡ f .N
+  pub level : l ≤ f .h

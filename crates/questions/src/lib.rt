@@ -1,20 +1,12 @@
 // What both readings are asked and answer: a neighbour with its count, or a refusal. Assumes nothing.
 use answers::Check;
-use answers::Dim;
-use answers::Level;
-use answers::Mark;
 use answers::Question;
 use answers::Refusal;
+use answers::Sizes;
 ghost use mathlib.Core.Path.{_≡_};
 ghost use Rattle.maps.specs.Read.{question as questionOf};
 ghost use Rattle.answers.specs.Numbers.{verdictOf};
-
-// n, h and N of the pyramid lent.
-pub struct Sizes {
-    pub n: Dim,
-    pub h: Level,
-    pub darts: u16,
-}
+ghost use Rattle.answers.specs.Pyramid.{lent};
 
 // A neighbour, and the number of base entries read on the way to it.
 pub struct Neighbour {
@@ -30,13 +22,13 @@ pub enum Reading {
 
 // What is tested before a walk: 1, 2, 3, 4, 11, 13, then 12, 8 and 12 of the starting dart.
 pub fn question(sizes: Sizes, rows: &[u16], lambda: &[u8], delta: &[u8], asked: Question) -> Check
-    ensures { λ r. ⌜ verdictOf r ≡ questionOf (sizes .n .0) (sizes .darts) (sizes .h .0) (now (rows .entry)) (now (lambda .entry)) (now (delta .entry)) (asked .level .0) (asked .involution .0) (asked .dart) ⌝ }
+    ensures { λ r. ⌜ verdictOf r ≡ questionOf (lent sizes (rows .entry) (lambda .entry) (delta .entry)) (asked .level .0) (asked .involution .0) (asked .dart) ⌝ }
 {
     let n = sizes.n;
     let h = sizes.h;
     let darts = sizes.darts;
-    let fit = answers::pyramid_fits(n, darts, rows.len(), lambda.len(), delta.len());
-    if let Check::Refused(r) = answers::asked(n, darts, h, fit, asked) {
+    let fit = answers::pyramid_fits(sizes, rows.len(), lambda.len(), delta.len());
+    if let Check::Refused(r) = answers::asked(sizes, fit, asked) {
         return Check::Refused(r);
     }
     let level = asked.level;
@@ -49,11 +41,11 @@ pub fn question(sizes: Sizes, rows: &[u16], lambda: &[u8], delta: &[u8], asked: 
         return Check::Refused(Refusal::NoDart(level, involution, dart));
     }
     let at = dart as usize;
-    let own = Level(lambda[at]);
-    if answers::marks_refused(n, h, own, Mark(delta[at])) {
+    let own = answers::lambda_at(lambda, at);
+    if answers::marks_refused(n, h, own, answers::delta_at(delta, at)) {
         return Check::Refused(Refusal::Marks(level, involution, dart));
     }
-    if own.0 < level.0 {
+    if answers::is_gone(own, level) {
         return Check::Refused(Refusal::NoDart(level, involution, dart));
     }
     Check::Accepted

@@ -9,7 +9,7 @@ use borrow.Author.Tests.{eqb-true}
 use Rattle.maps.specs.Verdict.{Verdict, accepted, refused, when, ifAccepted, _then_, scan}
 use Rattle.maps.specs.Sizes.{number1, number2, number3, sizes, number4, number11, hasLength}
 use Rattle.maps.specs.Table.{each, listed, absent}
-use Rattle.maps.specs.Folded.{refusedMarks}
+use Rattle.maps.specs.Folded.{refusedMarks, Folded}
 use Rattle.maps.specs.MarksBack.{atMarks8}
 use Rattle.maps.specs.Unfold.{atWalk, unfoldLent, unfoldTotal, unfoldSince, unfoldLeaves}
 use Rattle.laws.proofs.Verdicts.{not-refused, then-accepted, then-three, and-both}
@@ -71,22 +71,24 @@ and-four true true t u = refl
 and-four true false t u = refl
 and-four false s t u = refl
 
-module _ (n N h : ℕ) (rows lambda delta : List ℕ) (l : ℕ) (table : List ℕ) where
+module _ (f : Folded) (l : ℕ) (table : List ℕ) where
+  open Folded f using (n, N, h, rows, lambda, delta)
+
   abbrev answer : Verdict
-  answer = unfoldLent n N h rows lambda delta l table
+  answer = unfoldLent f l table
 
   -- the tests in their order: sizes, lengths and level, then marks, then walks
   abbrev pub fits : Bool
-  fits = pyramidFits n N rows lambda delta && hasLength table (suc n * N)
+  fits = pyramidFits f && hasLength table (suc n * N)
 
   abbrev first : Verdict
   first = askedOf n N h fits l 0 0
 
   abbrev marks : Verdict
-  marks = scan N (atMarks8 n N h lambda delta l [])
+  marks = scan N (atMarks8 n h (each lambda) (each delta) l)
 
   abbrev walks : Verdict
-  walks = walksVerdict n N h rows lambda delta l
+  walks = walksVerdict f l
 
   unfold-is : answer ≡ first then (marks then walks)
   unfolding unfoldLent atMarks8 atWalk
@@ -95,19 +97,19 @@ module _ (n N h : ℕ) (rows lambda delta : List ℕ) (l : ℕ) (table : List �
       ∙ then-three (sizes n N h) (number4 fits) (number11 h l 0 0) (marks then walks)
 
   -- what accepted sizes, lengths and level tell
-  pub unfold-lent : first ≡ accepted → Lent n N h rows lambda delta l × (length table ≡ suc n * N)
+  pub unfold-lent : first ≡ accepted → Lent f l × (length table ≡ suc n * N)
   unfold-lent e =
-      let f = then-accepted (lentOf n N h fits) (number11 h l 0 0) e in
-      let b = and-both (pyramidFits n N rows lambda delta) (hasLength table (suc n * N)) (lent-sized n N h fits (f .0) .1) in
-      (asked-lent n N h rows lambda delta l 0 0 (rw (b .0) (rw (b .0, b .1) at e)), eqb-true (length table) (suc n * N) (b .1))
+      let g = then-accepted (lentOf n N h fits) (number11 h l 0 0) e in
+      let b = and-both (pyramidFits f) (hasLength table (suc n * N)) (lent-sized n N h fits (g .0) .1) in
+      (asked-lent f l 0 0 (rw (b .0) (rw (b .0, b .1) at e)), eqb-true (length table) (suc n * N) (b .1))
 
   -- the contract's four clauses
   abbrev Gives : Verdict → ℕ → ℕ → List ℕ → Type 0
-  Gives v total later after = (v ≡ answer) × ((total ≡ unfoldTotal n N h rows lambda delta l table) × ((later ≡ unfoldSince n N h rows lambda delta l table) × (after ≡ unfoldLeaves n N h rows lambda delta l table)))
+  Gives v total later after = (v ≡ answer) × ((total ≡ unfoldTotal f l table) × ((later ≡ unfoldSince f l table) × (after ≡ unfoldLeaves f l table)))
 
   refuses : (r : Refusal) {after : List ℕ} → refusalOf r ≡ answer → after ≡ cond (spoils (refusalOf r)) (listed (λ x. absent) (length table)) table → Gives (refusalOf r) 0 0 after
   unfolding unfoldTotal unfoldSince unfoldLeaves
-  refuses r e f = let x = refusal-refuses r in (e, (rw (← e, x .is), (rw (← e, x .is), f ∙ rw (← e, x .is))))
+  refuses r e g = let x = refusal-refuses r in (e, (rw (← e, x .is), (rw (← e, x .is), g ∙ rw (← e, x .is))))
 
   pub unfold-first : (r : Refusal) → refusalOf r ≡ first → Gives (refusalOf r) 0 0 table
   unfold-first r e = refuses r (refused-first answer first (marks then walks) unfold-is r e) (rw (ap spoils e ∙ asked-keeps n N h fits l))
@@ -117,10 +119,10 @@ module _ (n N h : ℕ) (rows lambda delta : List ℕ) (l : ℕ) (table : List �
     unfolding atMarks8
     unfold-marks r e =
         refuses r (refused-second answer first (marks then walks) unfold-is r ok (refused-then r marks walks e))
-        (rw (ap spoils e ∙ scan-keeps N (atMarks8 n N h lambda delta l []) (λ x. when-keeps (refusedMarks n h (each lambda x) (each delta x)) 8 l 0 x refl)))
+        (rw (ap spoils e ∙ scan-keeps N (atMarks8 n h (each lambda) (each delta) l) (λ x. when-keeps (refusedMarks n h (each lambda x) (each delta x)) 8 l 0 x refl)))
 
     -- after accepted marks the walks decide
-    module _ (fine : accepted ≡ marks) {w : Walks} {after : List ℕ} (left : Leaves n N h rows lambda delta l w after) where
+    module _ (fine : accepted ≡ marks) {w : Walks} {after : List ℕ} (left : Leaves f l w after) where
       decides : answer ≡ walks
       decides = unfold-is ∙ (rw (← ok, ← fine))
 
@@ -131,11 +133,11 @@ module _ (n N h : ℕ) (rows lambda delta : List ℕ) (l : ℕ) (table : List �
       pub unfold-counted : {t : Total} {u : Unfolding} → t ≡ Counted u → Answered t → Gives accepted (u .count) (u .since .0) after
       unfolding unfoldTotal unfoldSince unfoldLeaves atWalk
       unfold-counted {t} {u} e q =
-          let f : Answered (Counted u) = rw e at q in
-          let all : walks ≡ accepted = sym (f .0 ∙ left .first) in
-          (rw (decides, all), (rw (decides, all) ((rw (← (f .0)) at (f .1 .0)) ∙ left .total all), (rw (decides, all) ((rw (← (f .0)) at (f .1 .1)) ∙ left .since all), rw (decides, all) (left .level all))))
+          let g : Answered (Counted u) = rw e at q in
+          let all : walks ≡ accepted = sym (g .0 ∙ left .first) in
+          (rw (decides, all), (rw (decides, all) ((rw (← (g .0)) at (g .1 .0)) ∙ left .total all), (rw (decides, all) ((rw (← (g .0)) at (g .1 .1)) ∙ left .since all), rw (decides, all) (left .level all))))
 
       pub unfold-refused : {t : Total} {r : Refusal} → t ≡ Refused r → Answered t → length table ≡ suc n * N → Gives (refusalOf r) 0 0 (listed (λ x. absent) (length after))
       unfold-refused {t} {r} e q size =
-          let f : refusalOf r ≡ stopOf l (w .stop) = rw e at (q .0) in
-          refuses r (f ∙ left .first ∙ sym decides) (rw (stop-spoils l (w .stop) r f) (ap (listed (λ x. absent)) (left .size ∙ sym size)))
+          let g : refusalOf r ≡ stopOf l (w .stop) = rw e at (q .0) in
+          refuses r (g ∙ left .first ∙ sym decides) (rw (stop-spoils l (w .stop) r g) (ap (listed (λ x. absent)) (left .size ∙ sym size)))

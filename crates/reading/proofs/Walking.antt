@@ -1,7 +1,6 @@
 -- The direct walk, read by read, by what the code tests. Assumes nothing.
 use mathlib.Core.Path.{_≡_, refl, sym, ap, _∙_}
 use mathlib.Core.Bool.{Bool, true, false, cond, not}
-use mathlib.Core.List.{List}
 use Prim.Native.Nat.{ℕ, suc, _+_, _-_, _*_, _≤_, _<_, max}
 use lib.ListN.{length}
 use native.Mathlib.Numerals.{add-one}
@@ -10,9 +9,9 @@ use lib.Dec.{eqb}
 use borrow.Author.Tests.{lt-ltb, le-ltb, not-false}
 use Rattle.maps.specs.Mark.{isMark, stay, between, canPass, across}
 use Rattle.maps.specs.Table.{entry, each}
-use Rattle.maps.specs.Folded.{refusedMarks}
-use Rattle.maps.specs.Walk.{Walked, ended, stopped, walkFrom, walk}
-use Rattle.maps.specs.Trail.{sinceOf, trailFrom, trail, since}
+use Rattle.maps.specs.Folded.{refusedMarks, Folded, base, lambdaOf, deltaOf}
+use Rattle.maps.specs.Walk.{Walked, ended, stopped, walkFrom, walk, walkAt}
+use Rattle.maps.specs.Trail.{sinceOf, trailFrom, trail, since, sinceAt}
 use Rattle.maps.specs.Read.{found, none, readingOf, ifFound}
 use Rattle.laws.proofs.Marks.{mark-byte, mark-rows}
 use Rattle.laws.proofs.Tables.{in-table, table-size}
@@ -32,10 +31,10 @@ across-row n mark t q = go (eqb t (between mark .0))
     go false = mark-rows n mark q .first
 
 -- the entry of row t and dart d lies in the rows, which are few
-pub entry-fits : {n N h l t d : ℕ} {rows lambda delta : List ℕ} → Lent n N h rows lambda delta l → t ≤ n → d < N → (t * N + d < length rows) × (length rows ≤ 20480)
-entry-fits {n} {N} {h} {l} {t} {d} p x y =
-    let z = table-size n N t (p .dimension) (p .darts) x in
-    let q = in-table n N t d x y in
+pub entry-fits : {f : Folded} {l t d : ℕ} → Lent f l → t ≤ f .n → d < f .N → (t * f .N + d < length (f .rows)) × (length (f .rows) ≤ 20480)
+entry-fits {f} {l} {t} {d} p x y =
+    let z = table-size (f .n) (f .N) t (p .dimension) (p .darts) x in
+    let q = in-table (f .n) (f .N) t d x y in
     let r = p .rows-length in
     (omega arith, omega arith)
 
@@ -48,29 +47,31 @@ pub end-says : {w : Walked} {row dart count s stands : ℕ} (l : ℕ) → w ≡ 
 end-says l e f = rw e (refl, f)
 
 -- row t of dart d is read next, after c reads, and s is the level so far: the whole walk is the rest of it, and so are the darts it passes
-pub record Next (rows lambda delta : List ℕ) (n N h l i b t d c s : ℕ) : Type 0 where
-  pub row : t ≤ n
-  pub dart : d < N
-  pub few : c < 1 + 2 * N
-  pub same : walk (entry N rows) n N h (each lambda) (each delta) l i b ≡ walkFrom (entry N rows) n N h (each lambda) (each delta) l i b (1 + 2 * N - c) t d c
-  pub raised : since (entry N rows) N (each lambda) (each delta) l i b ≡ max s (sinceOf (each lambda) (trailFrom (entry N rows) N (each lambda) (each delta) l (1 + 2 * N - c) t d))
+pub record Next (f : Folded) (l i b t d c s : ℕ) : Type 0 where
+  pub row : t ≤ f .n
+  pub dart : d < f .N
+  pub few : c < 1 + 2 * f .N
+  pub same : walkAt f l i b ≡ walkFrom (base f) (f .n) (f .N) (f .h) (lambdaOf f) (deltaOf f) l i b (1 + 2 * f .N - c) t d c
+  pub raised : sinceAt f l i b ≡ max s (sinceOf (lambdaOf f) (trailFrom (base f) (f .N) (lambdaOf f) (deltaOf f) l (1 + 2 * f .N - c) t d))
 
-pub next-first : (rows lambda delta : List ℕ) (n N h l i b : ℕ) → i ≤ n → b < N → Next rows lambda delta n N h l i b i b 0 0
+pub next-first : (f : Folded) (l i b : ℕ) → i ≤ f .n → b < f .N → Next f l i b i b 0 0
 unfolding walk since trail
-next-first rows lambda delta n N h l i b x y =
-    let k : 1 + 2 * N ≡ 1 + 2 * N - 0 = omega arith in
-    let passed : ℕ → ℕ = λ z. sinceOf (each lambda) (trailFrom (entry N rows) N (each lambda) (each delta) l z i b) in
-    record { row = x; dart = y; few = omega arith; same = ap (λ (z : ℕ). walkFrom (entry N rows) n N h (each lambda) (each delta) l i b z i b 0) k; raised = omega (arith, ap passed k) }
+next-first f l i b x y =
+    let k : 1 + 2 * f .N ≡ 1 + 2 * f .N - 0 = omega arith in
+    let passed : ℕ → ℕ = λ z. sinceOf (lambdaOf f) (trailFrom (base f) (f .N) (lambdaOf f) (deltaOf f) l z i b) in
+    record { row = x; dart = y; few = omega arith; same = ap (λ (z : ℕ). walkFrom (base f) (f .n) (f .N) (f .h) (lambdaOf f) (deltaOf f) l i b z i b 0) k; raised = omega (arith, ap passed k) }
 
-module _ {rows lambda delta : List ℕ} {n N h l i b t d c so-far : ℕ} (s : Next rows lambda delta n N h l i b t d c so-far) where
+module _ {f : Folded} {l i b t d c so-far : ℕ} (s : Next f l i b t d c so-far) where
+  open Folded f using (n, N, h, rows, lambda, delta)
+
   abbrev the-walk : Walked
-  the-walk = walk (entry N rows) n N h (each lambda) (each delta) l i b
+  the-walk = walkAt f l i b
 
   abbrev rest : ℕ → ℕ → ℕ → ℕ → Walked
-  rest = walkFrom (entry N rows) n N h (each lambda) (each delta) l i b
+  rest = walkFrom (base f) n N h (lambdaOf f) (deltaOf f) l i b
 
   abbrev stands : ℕ
-  stands = since (entry N rows) N (each lambda) (each delta) l i b
+  stands = sinceAt f l i b
 
   -- the level that the darts give which are passed from row u of dart x on, with k reads left
   abbrev passed : ℕ → ℕ → ℕ → ℕ
@@ -105,7 +106,7 @@ module _ {rows lambda delta : List ℕ} {n N h l i b t d c so-far : ℕ} (s : Ne
     arrived y = let z = one-passed {x = 0} (simp (← r, le-ltb (each lambda e) l y, trailFrom, sinceOf)) in omega (arith, z)
 
   -- the dart read is e, which is not on the level and whose marks are allowed
-  module _ {e : ℕ} (m : Meets N rows lambda l n t d e) (low : l ≤ h) (q : refusedMarks n h (each lambda e) (each delta e) ≡ false) where
+  module _ {e : ℕ} (m : Meets f l t d e) (low : l ≤ h) (q : refusedMarks n h (each lambda e) (each delta e) ≡ false) where
     is-mark : isMark n (each delta e) ≡ true
     is-mark = not-false (isMark n (each delta e)) (sym (gone-marks n h (each lambda e) (each delta e) l low (m .gone)) ∙ q)
 
@@ -129,35 +130,35 @@ module _ {rows lambda delta : List ℕ} {n N h l i b t d c so-far : ℕ} (s : Ne
       unfolding walkFrom
       long k = let z : 2 * N - c ≡ 0 = omega arith in goes-on ∙ ap (λ (x : ℕ). rest x (across (each delta e) t) e (c + 1)) z
 
-      pub passes : (c + 1 ≡ 1 + 2 * N → ⊥) → {u raise : ℕ} → u ≡ across (each delta e) t → raise ≡ max so-far (each lambda e + 1) → Next rows lambda delta n N h l i b u e (c + 1) raise
+      pub passes : (c + 1 ≡ 1 + 2 * N → ⊥) → {u raise : ℕ} → u ≡ across (each delta e) t → raise ≡ max so-far (each lambda e + 1) → Next f l i b u e (c + 1) raise
       passes k v y =
           let f = s .few in
           let z : 2 * N - c ≡ 1 + 2 * N - (c + 1) = omega arith in
           rw (v, y) record { row = across-row n (each delta e) t is-mark; dart = m .dart; few = omega arith; same = goes-on ∙ ap (λ (x : ℕ). rest x (across (each delta e) t) e (c + 1)) z; raised = omega (arith, goes-later, ap (λ (x : ℕ). passed x (across (each delta e) t) e) z) }
 
 -- dart e, which is not on the level, was met by row t with read number c, and s is the level once it is passed
-pub record Met (rows lambda delta : List ℕ) (n N h l i b t e c s : ℕ) : Type 0 where
+pub record Met (f : Folded) (l i b t e c s : ℕ) : Type 0 where
   pub source : ℕ
   pub before : ℕ
   pub so-far : ℕ
-  pub next : Next rows lambda delta n N h l i b t source before so-far
+  pub next : Next f l i b t source before so-far
   pub reads : c ≡ before + 1
-  pub meets : Meets N rows lambda l n t source e
-  pub raise : s ≡ max so-far (each lambda e + 1)
+  pub meets : Meets f l t source e
+  pub raise : s ≡ max so-far (lambdaOf f e + 1)
 
-pub met-first : {rows lambda : List ℕ} {n N l i b e : ℕ} (delta : List ℕ) (h : ℕ) → Meets N rows lambda l n i b e → Met rows lambda delta n N h l i b i e 1 (each lambda e + 1)
-met-first {rows} {lambda} {n} {N} {l} {i} {b} delta h m = record { source = b; before = 0; so-far = 0; next = next-first rows lambda delta n N h l i b (m .row) (m .start); reads = refl; meets = m; raise = omega arith }
+pub met-first : {f : Folded} {l i b e : ℕ} → Meets f l i b e → Met f l i b i e 1 (lambdaOf f e + 1)
+met-first {f} {l} {i} {b} m = record { source = b; before = 0; so-far = 0; next = next-first f l i b (m .row) (m .start); reads = refl; meets = m; raise = omega arith }
 
 -- where all marks are allowed
-module _ {rows lambda delta : List ℕ} {n N h l i b t e c later : ℕ} (p : Allowed n N h rows lambda delta l) (s : Met rows lambda delta n N h l i b t e c later) where
-  pub met-mark : each delta e < stay
+module _ {f : Folded} {l i b t e c later : ℕ} (p : Allowed f l) (s : Met f l i b t e c later) where
+  pub met-mark : deltaOf f e < stay
   met-mark = met-byte (s .next) (s .meets) (p .lent .level) (p .allowed e (s .meets .dart)) (p .lent .dimension)
 
-  pub met-no-pass : canPass (each delta e) t ≡ false → walk (entry N rows) n N h (each lambda) (each delta) l i b ≡ stopped 14 t e
+  pub met-no-pass : canPass (deltaOf f e) t ≡ false → walkAt f l i b ≡ stopped 14 t e
   met-no-pass q = no-pass (s .next) (s .meets) (p .lent .level) (p .allowed e (s .meets .dart)) q
 
-  pub met-long : canPass (each delta e) t ≡ true → c ≡ 1 + 2 * N → walk (entry N rows) n N h (each lambda) (each delta) l i b ≡ stopped 15 i b
+  pub met-long : canPass (deltaOf f e) t ≡ true → c ≡ 1 + 2 * f .N → walkAt f l i b ≡ stopped 15 i b
   met-long q k = long (s .next) (s .meets) (p .lent .level) (p .allowed e (s .meets .dart)) q (sym (s .reads) ∙ k)
 
-  pub met-passes : canPass (each delta e) t ≡ true → (c ≡ 1 + 2 * N → ⊥) → {u : ℕ} → u ≡ across (each delta e) t → Next rows lambda delta n N h l i b u e c later
+  pub met-passes : canPass (deltaOf f e) t ≡ true → (c ≡ 1 + 2 * f .N → ⊥) → {u : ℕ} → u ≡ across (deltaOf f e) t → Next f l i b u e c later
   met-passes q k v = rw (s .reads) (passes (s .next) (s .meets) (p .lent .level) (p .allowed e (s .meets .dart)) q (λ z. k (s .reads ∙ z)) v (s .raise))

@@ -5,12 +5,12 @@ use mathlib.Core.List.{List, []}
 use Prim.Native.Nat.{ℕ, suc, _+_, _*_, _≤_, _<_}
 use lib.ListN.{length}
 use Rattle.maps.specs.Verdict.{Verdict, accepted, refused, scan}
-use Rattle.maps.specs.Table.{entry, each, explicit}
-use Rattle.maps.specs.Folded.{survives, refusedMarks}
-use Rattle.maps.specs.Walk.{Walked, ended, stopped}
-use Rattle.maps.specs.Trail.{latest}
+use Rattle.maps.specs.Table.{explicit}
+use Rattle.maps.specs.Folded.{survives, refusedMarks, Folded, base, lambdaOf, deltaOf}
+use Rattle.maps.specs.Walk.{ended, stopped, walkAt}
+use Rattle.maps.specs.Trail.{latest, sinceAt}
 use Rattle.maps.specs.Cost.{cost}
-use Rattle.maps.specs.Unfold.{dartOf, walkAt, atWalk}
+use Rattle.maps.specs.Unfold.{dartOf, atWalk}
 use Rattle.questions.specs.Lent.{Lent}
 use Rattle.reading.specs.declared.Link.{Link}
 use Rattle.reading.specs.declared.filling.Stop.{Stop}
@@ -20,17 +20,17 @@ use Rattle.reading.specs.declared.filling.Rest.the-variants.{Ended, Stop
 use Rattle.reading.specs.declared.filling.Walks.{Walks}
 
 -- what the walks are lent where 8 has been tested for all darts
-pub record Allowed (n N h : ℕ) (rows lambda delta : List ℕ) (l : ℕ) : Type 0 where
-  pub lent : Lent n N h rows lambda delta l
-  pub allowed : (x : ℕ) → x < N → refusedMarks n h (each lambda x) (each delta x) ≡ false
+pub record Allowed (f : Folded) (l : ℕ) : Type 0 where
+  pub lent : Lent f l
+  pub allowed : (x : ℕ) → x < f .N → refusedMarks (f .n) (f .h) (lambdaOf f x) (deltaOf f x) ≡ false
 
 -- row t of dart d holds dart e, which is not on level l
-pub record Meets (N : ℕ) (rows lambda : List ℕ) (l n t d e : ℕ) : Type 0 where
-  pub row : t ≤ n
-  pub start : d < N
-  pub read : e ≡ entry N rows t d
-  pub dart : e < N
-  pub gone : each lambda e < l
+pub record Meets (f : Folded) (l t d e : ℕ) : Type 0 where
+  pub row : t ≤ f .n
+  pub start : d < f .N
+  pub read : e ≡ base f t d
+  pub dart : e < f .N
+  pub gone : lambdaOf f e < l
 
 -- the refusal, with the level asked
 abbrev pub stopOf : ℕ → Stop → Verdict
@@ -40,34 +40,36 @@ stopOf l (Strays i d) = refused 5 l (i .0) d
 stopOf l (NoPass i d) = refused 14 l (i .0) d
 
 -- a walk that ends at a dart, with the level since which its link stands; it reads 1 + 2N entries at most
-pub record Arrives (N : ℕ) (w : Walked) (since : ℕ) (end : Link) : Type 0 where
+pub record Arrives (f : Folded) (l i d : ℕ) (end : Link) : Type 0 where
   pub row : ℕ
-  pub is : w ≡ ended row (end .dart) (end .count)
-  pub few : end .count ≤ 1 + 2 * N
-  pub stands : end .since .0 ≡ since
+  pub is : walkAt f l i d ≡ ended row (end .dart) (end .count)
+  pub few : end .count ≤ 1 + 2 * f .N
+  pub stands : end .since .0 ≡ sinceAt f l i d
 
 -- a walk that is refused
-pub record Fails (l : ℕ) (w : Walked) (why : Stop) : Type 0 where
+pub record Fails (f : Folded) (l i d : ℕ) (why : Stop) : Type 0 where
   pub number : ℕ
   pub row : ℕ
   pub dart : ℕ
-  pub is : w ≡ stopped number row dart
+  pub is : walkAt f l i d ≡ stopped number row dart
   pub said : stopOf l why ≡ refused number l row dart
 
--- how a walk goes on
-abbrev pub Tells : ℕ → ℕ → Walked → ℕ → Rest → Type 0
-Tells N l w since (Ended end) = Arrives N w since end
-Tells N l w since (Stopped why) = Fails l w why
+-- how the walk of dart d by row i goes on
+abbrev pub Tells : Folded → ℕ → ℕ → ℕ → Rest → Type 0
+Tells f l i d (Ended end) = Arrives f l i d end
+Tells f l i d (Stopped why) = Fails f l i d why
 
-module _ (n N h : ℕ) (rows lambda delta : List ℕ) (l : ℕ) where
+module _ (f : Folded) (l : ℕ) where
+  open Folded f using (n, N, h)
+
   -- the first refusal of the walks, by involution, then dart
   abbrev pub walksVerdict : Verdict
-  walksVerdict = scan (suc n) (λ i. scan N (atWalk n N h rows lambda delta l [] i))
+  walksVerdict = scan (suc n) (λ i. scan N (atWalk f l i))
 
   -- what the walks leave: the first refusal; where there is none, their count, since which level all links stand, and the explicit level
   pub record Leaves (walks : Walks) (table : List ℕ) : Type 0 where
     pub size : length table ≡ suc n * N
     pub first : stopOf l (walks .stop) ≡ walksVerdict
-    pub total : walksVerdict ≡ accepted → walks .total ≡ cost (entry N rows) n N h (each lambda) (each delta) l
-    pub since : walksVerdict ≡ accepted → walks .since .0 ≡ latest (entry N rows) N (each lambda) (each delta) l n
-    pub level : walksVerdict ≡ accepted → table ≡ explicit (λ i d. dartOf (walkAt n N h rows lambda delta l [] i d)) n N (survives (each lambda) l)
+    pub total : walksVerdict ≡ accepted → walks .total ≡ cost (base f) n N h (lambdaOf f) (deltaOf f) l
+    pub since : walksVerdict ≡ accepted → walks .since .0 ≡ latest (base f) N (lambdaOf f) (deltaOf f) l n
+    pub level : walksVerdict ≡ accepted → table ≡ explicit (λ i d. dartOf (walkAt f l i d)) n N (survives (lambdaOf f) l)

@@ -3,20 +3,20 @@ use super::Link;
 use super::Total;
 use super::Unfolding;
 use super::later;
+use answers::ABSENT;
 use answers::Dim;
 use answers::Level;
 use answers::Mark;
 use answers::Onward;
 use answers::Question;
 use answers::Refusal;
-use questions::Sizes;
+use answers::Sizes;
 ghost use mathlib.Core.Path.{_≡_};
 ghost use Prim.Native.Nat.{suc, _*_, max};
 ghost use lib.ListN.{length};
 ghost use Rattle.maps.specs.Verdict.{ifAccepted};
-ghost use Rattle.maps.specs.Table.{entry, each, listed, absent};
-ghost use Rattle.maps.specs.Walk.{walk as walkOf};
-ghost use Rattle.maps.specs.Trail.{since as sinceOf};
+ghost use Rattle.maps.specs.Table.{listed, absent};
+ghost use Rattle.answers.specs.Pyramid.{lent};
 ghost use Rattle.reading.specs.Answers.{checkOf, totalOf, latestOf};
 ghost use Rattle.reading.specs.Walks.{Allowed, Meets, stopOf, Tells, Leaves};
 
@@ -53,8 +53,8 @@ fn onward(
     asked: Question,
     met: u16,
 ) -> Rest
-    requires { ⌜ Allowed (sizes .n .0) (sizes .darts) (sizes .h .0) (now rows) (now lambda) (now delta) (asked .level .0) × Meets (sizes .darts) (now rows) (now lambda) (asked .level .0) (sizes .n .0) (asked .involution .0) (asked .dart) met ⌝ }
-    ensures { λ r. ⌜ Tells (sizes .darts) (asked .level .0) (walkOf (entry (sizes .darts) (now (rows .entry))) (sizes .n .0) (sizes .darts) (sizes .h .0) (each (now (lambda .entry))) (each (now (delta .entry))) (asked .level .0) (asked .involution .0) (asked .dart)) (sinceOf (entry (sizes .darts) (now (rows .entry))) (sizes .darts) (each (now (lambda .entry))) (each (now (delta .entry))) (asked .level .0) (asked .involution .0) (asked .dart)) r ⌝ }
+    requires { ⌜ Allowed (lent sizes rows lambda delta) (asked .level .0) × Meets (lent sizes rows lambda delta) (asked .level .0) (asked .involution .0) (asked .dart) met ⌝ }
+    ensures { λ r. ⌜ Tells (lent sizes (rows .entry) (lambda .entry) (delta .entry)) (asked .level .0) (asked .involution .0) (asked .dart) r ⌝ }
 {
     let darts = sizes.darts;
     let most = 1 + 2 * darts as u32;
@@ -98,7 +98,7 @@ pub fn clear(table: &mut [u16])
     ensures { λ _. ⌜ now (table .exit) ≡ listed (λ _. absent) (length (now (table .entry))) ⌝ }
 {
     for k in 0..table.len() {
-        table[k] = 65535;
+        table[k] = ABSENT;
     }
 }
 
@@ -118,8 +118,8 @@ pub fn fill(
     level: Level,
     table: &mut [u16],
 ) -> Walks
-    requires { ⌜ Allowed (sizes .n .0) (sizes .darts) (sizes .h .0) (now rows) (now lambda) (now delta) (level .0) × (length (now table) ≡ suc (sizes .n .0) * sizes .darts) ⌝ }
-    ensures { λ r. ⌜ Leaves (sizes .n .0) (sizes .darts) (sizes .h .0) (now (rows .entry)) (now (lambda .entry)) (now (delta .entry)) (level .0) r (now (table .exit)) ⌝ }
+    requires { ⌜ Allowed (lent sizes rows lambda delta) (level .0) × (length (now table) ≡ suc (sizes .n .0) * sizes .darts) ⌝ }
+    ensures { λ r. ⌜ Leaves (lent sizes (rows .entry) (lambda .entry) (delta .entry)) (level .0) r (now (table .exit)) ⌝ }
 {
     let n = sizes.n;
     let darts = sizes.darts;
@@ -130,7 +130,7 @@ pub fn fill(
         for d in 0..darts {
             let place = i as usize * darts as usize + d as usize;
             if lambda[d as usize] < level.0 {
-                table[place] = 65535;
+                table[place] = ABSENT;
             } else {
                 let e = rows[place];
                 if darts <= e {

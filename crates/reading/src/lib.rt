@@ -4,21 +4,18 @@ mod filling; // filling.rt: the walks of a level into a table
 use answers::Check;
 use answers::Dim;
 use answers::Level;
-use answers::Mark;
 use answers::Onward;
 use answers::Question;
 use answers::Refusal;
+use answers::Sizes;
 use filling::answer;
 use filling::clear;
 use filling::fill;
-use questions::Sizes;
 ghost use mathlib.Core.Path.{_≡_};
 ghost use Prim.Native.Nat.{_≤_, _<_, max};
-ghost use Rattle.maps.specs.Read.{ifFound, readLent, readSince, readingOf};
-ghost use Rattle.maps.specs.Table.{entry, each};
-ghost use Rattle.maps.specs.Walk.{walk as walkOf};
-ghost use Rattle.maps.specs.Trail.{since as sinceOf};
+ghost use Rattle.maps.specs.Read.{walkGives, walkSince, readLent, readSince};
 ghost use Rattle.maps.specs.Unfold.{unfoldLent, unfoldTotal, unfoldSince, unfoldLeaves};
+ghost use Rattle.answers.specs.Pyramid.{lent};
 ghost use Rattle.questions.specs.Lent.{Lent};
 ghost use Rattle.reading.specs.Answers.{valueOf, standsSince, checkOf, totalOf, latestOf};
 
@@ -59,9 +56,9 @@ pub(crate) fn later(one: Level, other: Level) -> Level
 
 // The direct walk of a dart: at each read 5 and 8; then the dart met is on the level, or 14, or 15, or it is passed.
 fn walk(sizes: Sizes, rows: &[u16], lambda: &[u8], delta: &[u8], asked: Question) -> Reading
-    requires { ⌜ Lent (sizes .n .0) (sizes .darts) (sizes .h .0) (now rows) (now lambda) (now delta) (asked .level .0) × (asked .involution .0 ≤ sizes .n .0) × (asked .dart < sizes .darts) ⌝ }
-    ensures answer { λ r. ⌜ valueOf r ≡ readingOf (asked .level .0) (walkOf (entry (sizes .darts) (now (rows .entry))) (sizes .n .0) (sizes .darts) (sizes .h .0) (each (now (lambda .entry))) (each (now (delta .entry))) (asked .level .0) (asked .involution .0) (asked .dart)) ⌝ }
-    ensures since { λ r. ⌜ standsSince r ≡ ifFound (readingOf (asked .level .0) (walkOf (entry (sizes .darts) (now (rows .entry))) (sizes .n .0) (sizes .darts) (sizes .h .0) (each (now (lambda .entry))) (each (now (delta .entry))) (asked .level .0) (asked .involution .0) (asked .dart))) (sinceOf (entry (sizes .darts) (now (rows .entry))) (sizes .darts) (each (now (lambda .entry))) (each (now (delta .entry))) (asked .level .0) (asked .involution .0) (asked .dart)) ⌝ }
+    requires { ⌜ Lent (lent sizes rows lambda delta) (asked .level .0) × (asked .involution .0 ≤ sizes .n .0) × (asked .dart < sizes .darts) ⌝ }
+    ensures answer { λ r. ⌜ valueOf r ≡ walkGives (lent sizes (rows .entry) (lambda .entry) (delta .entry)) (asked .level .0) (asked .involution .0) (asked .dart) ⌝ }
+    ensures since { λ r. ⌜ standsSince r ≡ walkSince (lent sizes (rows .entry) (lambda .entry) (delta .entry)) (asked .level .0) (asked .involution .0) (asked .dart) ⌝ }
 {
     let n = sizes.n;
     let h = sizes.h;
@@ -79,9 +76,9 @@ fn walk(sizes: Sizes, rows: &[u16], lambda: &[u8], delta: &[u8], asked: Question
             return Reading::Refused(Refusal::Strays(level, t, from));
         }
         count += 1;
-        let own = Level(lambda[e as usize]);
-        let mark = Mark(delta[e as usize]);
-        if level.0 <= own.0 {
+        let own = answers::lambda_at(lambda, e as usize);
+        let mark = answers::delta_at(delta, e as usize);
+        if !answers::is_gone(own, level) {
             if answers::marks_refused(n, h, own, mark) {
                 return Reading::Refused(Refusal::Marks(level, t, e));
             }
@@ -108,26 +105,10 @@ fn walk(sizes: Sizes, rows: &[u16], lambda: &[u8], delta: &[u8], asked: Question
 }
 
 // The neighbour of a dart at a level, on any tables, and since which level it is that.
-pub fn read(
-    n: Dim,
-    darts: u16,
-    h: Level,
-    rows: &[u16],
-    lambda: &[u8],
-    delta: &[u8],
-    level: Level,
-    involution: Dim,
-    dart: u16,
-) -> Reading
-    ensures answer { λ r. ⌜ valueOf r ≡ readLent (n .0) darts (h .0) (now (rows .entry)) (now (lambda .entry)) (now (delta .entry)) (level .0) (involution .0) dart ⌝ }
-    ensures since { λ r. ⌜ standsSince r ≡ readSince (n .0) darts (h .0) (now (rows .entry)) (now (lambda .entry)) (now (delta .entry)) (level .0) (involution .0) dart ⌝ }
+pub fn read(sizes: Sizes, rows: &[u16], lambda: &[u8], delta: &[u8], asked: Question) -> Reading
+    ensures answer { λ r. ⌜ valueOf r ≡ readLent (lent sizes (rows .entry) (lambda .entry) (delta .entry)) (asked .level .0) (asked .involution .0) (asked .dart) ⌝ }
+    ensures since { λ r. ⌜ standsSince r ≡ readSince (lent sizes (rows .entry) (lambda .entry) (delta .entry)) (asked .level .0) (asked .involution .0) (asked .dart) ⌝ }
 {
-    let asked = Question {
-        level,
-        involution,
-        dart,
-    };
-    let sizes = Sizes { n, h, darts };
     match questions::question(sizes, rows, lambda, delta, asked) {
         Check::Refused(r) => Reading::Refused(r),
         Check::Accepted => walk(sizes, rows, lambda, delta, asked),
@@ -136,31 +117,32 @@ pub fn read(
 
 // A whole level into the lent table by direct walks, with the total count and since which level all links stand; after 5, 14 and 15 the table is 65,535 throughout.
 pub fn unfold(
-    n: Dim,
-    darts: u16,
-    h: Level,
+    sizes: Sizes,
     rows: &[u16],
     lambda: &[u8],
     delta: &[u8],
     level: Level,
     table: &mut [u16],
 ) -> Total
-    ensures verdict { λ r. ⌜ checkOf r ≡ unfoldLent (n .0) darts (h .0) (now (rows .entry)) (now (lambda .entry)) (now (delta .entry)) (level .0) (now (table .entry)) ⌝ }
-    ensures total { λ r. ⌜ totalOf r ≡ unfoldTotal (n .0) darts (h .0) (now (rows .entry)) (now (lambda .entry)) (now (delta .entry)) (level .0) (now (table .entry)) ⌝ }
-    ensures since { λ r. ⌜ latestOf r ≡ unfoldSince (n .0) darts (h .0) (now (rows .entry)) (now (lambda .entry)) (now (delta .entry)) (level .0) (now (table .entry)) ⌝ }
-    ensures table_left { λ _. ⌜ now (table .exit) ≡ unfoldLeaves (n .0) darts (h .0) (now (rows .entry)) (now (lambda .entry)) (now (delta .entry)) (level .0) (now (table .entry)) ⌝ }
+    ensures verdict { λ r. ⌜ checkOf r ≡ unfoldLent (lent sizes (rows .entry) (lambda .entry) (delta .entry)) (level .0) (now (table .entry)) ⌝ }
+    ensures total { λ r. ⌜ totalOf r ≡ unfoldTotal (lent sizes (rows .entry) (lambda .entry) (delta .entry)) (level .0) (now (table .entry)) ⌝ }
+    ensures since { λ r. ⌜ latestOf r ≡ unfoldSince (lent sizes (rows .entry) (lambda .entry) (delta .entry)) (level .0) (now (table .entry)) ⌝ }
+    ensures table_left { λ _. ⌜ now (table .exit) ≡ unfoldLeaves (lent sizes (rows .entry) (lambda .entry) (delta .entry)) (level .0) (now (table .entry)) ⌝ }
 {
-    let lent = answers::pyramid_fits(n, darts, rows.len(), lambda.len(), delta.len());
+    let n = sizes.n;
+    let h = sizes.h;
+    let darts = sizes.darts;
+    let lent = answers::pyramid_fits(sizes, rows.len(), lambda.len(), delta.len());
     let fit = answers::both(lent, answers::rows_fit(n, darts, table.len()));
     let asked = Question {
         level,
         involution: Dim(0),
         dart: 0,
     };
-    if let Check::Refused(r) = answers::asked(n, darts, h, fit, asked) {
+    if let Check::Refused(r) = answers::asked(sizes, fit, asked) {
         return Total::Refused(r);
     }
-    if let Check::Refused(r) = answers::marks_refusal(n, darts, h, lambda, delta, level) {
+    if let Check::Refused(r) = answers::marks_refusal(sizes, lambda, delta, level) {
         return Total::Refused(r);
     }
     let sizes = Sizes { n, h, darts };

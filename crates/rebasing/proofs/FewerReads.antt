@@ -11,7 +11,8 @@ use Rattle.maps.specs.Walk.{countOf}
 use Rattle.maps.specs.Cost.{reads}
 use Rattle.maps.specs.Pyramid.{Pyramid}
 use Rattle.facts.proofs.Runs.{Run, Ground, unique}
-use Rattle.facts.proofs.Levels.{string, low, high, level-valid, course}
+use Rattle.facts.proofs.Strings.{string}
+use Rattle.facts.proofs.Levels.{low, high, level-valid}
 use Rattle.facts.proofs.Readings.{base-ground, Walks, walks}
 use Rattle.facts.proofs.Facts.{facts}
 use Rattle.rebasing.proofs.Renaming.{run-renamed}
@@ -58,7 +59,7 @@ module _ (a : Involutions) (n N h : ℕ) (Λ Δ : ℕ → ℕ) (y : Pyramid a n 
       run-renamed old a′ L n (λ z. z < N′) (On N Λ l) (base-renaming a n N h Λ Δ y l a′ N′ h′ Λ′ Δ′ old r) (low Δ′) (high Δ′) (low Δ) (high Δ) (gone Λ′ k) (gone Λ (l + k))
       (λ z lz. ap (λ (m : ℕ). between m .0) (r .delta z lz)) (λ z lz. ap (λ (m : ℕ). between m .1) (r .delta z lz)) (gone-raised k)
       (base-ground a′ n N′ h′ Λ′ Δ′ y′ k f) (w′ .passes) i d i e li (o .0) (w′ .run) in
-      let s = string a L (low Δ) (high Δ) (gone Λ l) (gone Λ (l + k)) (gone Λ (l + k)) n (On N Λ l) (level-ground k f) (gone-more k) (λ z q. q) (λ z p q. q) (course a n N h Λ Δ y l fl)
+      let s = string a L (low Δ) (high Δ) (gone Λ l) (gone Λ (l + k)) (gone Λ (l + k)) n (On N Λ l) (level-ground k f) (gone-more k) (λ z q. q) (λ z p q. q) (λ t e lt p. let v = walks a n N h Λ Δ y l fl t e lt p in (v .passes, v .run))
       (w′ .passes) i (old d) i (old e) li (o₁ .0, omega (arith, o₁ .1)) x in
       let u = unique a (low Δ) (high Δ) (gone Λ (l + k)) (s .0) (w .passes) i (old d) i (old e) i (level a n N (marks h Λ Δ) (l + k) i (old d)) (s .2) (w .run) in
       omega (arith, u .0, s .1, reads-passes a n N h Λ Δ y (l + k) i (old d) f₁ li o₁ w, reads-passes a′ n N′ h′ Λ′ Δ′ y′ k i d f li o w′)

@@ -14,7 +14,7 @@ use Rattle.maps.specs.Verdict.{accepted}
 use Rattle.maps.specs.Sizes.{number4}
 use Rattle.maps.specs.Mark.{stay}
 use Rattle.maps.specs.Table.{entry, each, absent}
-use Rattle.maps.specs.Folded.{On, survives, levelTable}
+use Rattle.maps.specs.Folded.{On, survives, levelTable, ofParts}
 use Rattle.maps.specs.Pyramid.{Pyramid}
 use Rattle.maps.specs.CheckPyramid.{leftBehind, checkLent, checkLeaves}
 use Rattle.laws.proofs.Counting.{count-le}
@@ -56,9 +56,9 @@ pub record PackedAgain (n N h : ℕ) (rows lambda delta : List ℕ) (l N′ h′
   -- no survivor of level l is left out: its rank is a new dart, whose old number is the survivor's
   pub every : (d : ℕ) → On N (each lambda) l d → (rank (each lambda) l d < N′) × (each old′ (rank (each lambda) l d) ≡ d)
   -- lent again, in their new lengths, they are accepted
-  pub accepted-again : (table′ : List ℕ) → length table′ ≡ suc n * N′ → checkLent n N′ h′ (take (suc n * N′) rows′) (take N′ lambda′) (take N′ delta′) table′ ≡ accepted
+  pub accepted-again : (table′ : List ℕ) → length table′ ≡ suc n * N′ → checkLent (ofParts n N′ h′ (take (suc n * N′) rows′) (take N′ lambda′) (take N′ delta′)) table′ ≡ accepted
 
-module _ (n N h : ℕ) (rows lambda delta table : List ℕ) (l : ℕ) (old : List ℕ) (e : rebaseLent n N h rows lambda delta table l old ≡ accepted) where
+module _ (n N h : ℕ) (rows lambda delta table : List ℕ) (l : ℕ) (old : List ℕ) (e : rebaseLent (ofParts n N h rows lambda delta) table l old ≡ accepted) where
   abbrev a : ℕ → ℕ → ℕ
   a = entry N rows
 
@@ -80,10 +80,10 @@ module _ (n N h : ℕ) (rows lambda delta table : List ℕ) (l : ℕ) (old : Lis
 
   -- what is lent is an accepted pyramid
   pub lent-pyramid : Pyramid a n N h Λ Δ
-  lent-pyramid = accepted-pyramid n N h rows lambda delta table (found .checked)
+  lent-pyramid = accepted-pyramid (ofParts n N h rows lambda delta) table (found .checked)
 
   -- accepted, the table holds level h, as after the check
-  pub again-table : rebaseTable n N h rows lambda delta table l old ≡ levelTable a n N h Λ Δ h
+  pub again-table : rebaseTable (ofParts n N h rows lambda delta) table l old ≡ levelTable a n N h Λ Δ h
   unfolding rebaseTable rebaseSizes checkLeaves leftBehind number4
   again-table = rw (found .sized, eq-eqb (length old) N (found .old-long), found .checked)
 
@@ -128,7 +128,7 @@ module _ (n N h : ℕ) (rows lambda delta table : List ℕ) (l : ℕ) (old : Lis
   all-there d o = let f = rank-below N Λ l d o in (f, packed-at (oldNumber N Λ l) D absent N fewer-darts (rank Λ l d) f ∙ old-rank N Λ l d o)
 
   -- and the check accepts them
-  front-accepted : (table′ : List ℕ) → length table′ ≡ suc n * D → checkLent n D H R L T table′ ≡ accepted
+  front-accepted : (table′ : List ℕ) → length table′ ≡ suc n * D → checkLent (ofParts n D H R L T) table′ ≡ accepted
   unfolding checkLent number4
   front-accepted table′ f =
       let y = renumbered-pyramid a n N h Λ Δ lent-pyramid l (entry D R) D H (each L) (each T) (each (packed (oldNumber N Λ l) D absent N)) fronts in
@@ -143,7 +143,7 @@ module _ (n N h : ℕ) (rows lambda delta table : List ℕ) (l : ℕ) (old : Lis
 
   -- the job, where it does not refuse, leaves the new pyramid packed to the front
   pub packed-again : PackedAgain n N h rows lambda delta l
-      (rebaseDarts n N h rows lambda delta table l old) (rebaseHeight n N h rows lambda delta table l old) (rebaseRows n N h rows lambda delta table l old)
-      (rebaseLambda n N h rows lambda delta table l old) (rebaseDelta n N h rows lambda delta table l old) (rebaseOld n N h rows lambda delta table l old)
+      (rebaseDarts (ofParts n N h rows lambda delta) table l old) (rebaseHeight (ofParts n N h rows lambda delta) table l old) (rebaseRows (ofParts n N h rows lambda delta) table l old)
+      (rebaseLambda (ofParts n N h rows lambda delta) table l old) (rebaseDelta (ofParts n N h rows lambda delta) table l old) (rebaseOld (ofParts n N h rows lambda delta) table l old)
   unfolding rebaseDarts rebaseHeight rebaseRows rebaseLambda rebaseDelta rebaseOld
   packed-again = rw e (record { some = found .some; few = fewer-darts; renumbered = fronts; as-many = refl; rising = λ d ld. packed-at (oldNumber N Λ l) D absent N fewer-darts d ld; every = all-there; accepted-again = front-accepted })

@@ -7,7 +7,8 @@ use Rattle.maps.specs.Table.{entry, each}
 use Rattle.maps.specs.Check.{checkKernel, kernelAt, checkKernels}
 use Rattle.maps.specs.CheckBase.{present}
 use Rattle.laws.proofs.Verdicts.{scan-accepted}
-use Rattle.facts.proofs.Checks.{There, kernel-sound}
+use Rattle.maps.specs.Explicit.{There}
+use Rattle.facts.proofs.Checks.{kernel-sound}
 use Rattle.kernels.specs.Strings.{kernelRow}
 use Rattle.kernels.specs.Ready.{Ready, removedFrom}
 use Rattle.climbing.specs.Climb.{climbs}
@@ -22,7 +23,7 @@ module _ {n N h : ℕ} {rows lambda delta table : List ℕ} {l : ℕ} (c : Climb
   passed = sym (kernel-is c f ∙ scan-accepted h (kernelAt (entry N rows) n N h (each lambda) (each delta)) all l f)
 
   pub kernel-ready : Ready n N row table
-  kernel-ready = let t = climb-tested c f in record { tested = t; kernel = kernel-sound (entry N table) n N row l (There (entry N table) n N (present N table)) (t .sound .valid) (λ d o. o .0) (sym passed) }
+  kernel-ready = let t = climb-tested c f in record { tested = t; kernel = kernel-sound (entry N table) n N row l (There N (present N table)) (t .sound .valid) (λ d o. o .0) (sym passed) }
 
   pub kernel-removed : {after : List ℕ} → after ≡ removedFrom n N row table → Climbed n N h rows lambda delta after (l + 1)
   kernel-removed e = climb-next c f (rw (← passed) e) passed

@@ -4,12 +4,14 @@ use mathlib.Core.Bool.{Bool, true, false}
 use Prim.Native.Nat.{ℕ, zero, suc, _+_, _≤_, _<_}
 use native.Mathlib.Omega.{arith}
 use lib.Dec.{eqb, ltb}
+use borrow.Author.Count.{below-more}
 use borrow.Author.Tests.{eqb-true, eqb-false, eq-eqb, ne-eqb, ltb-true, ltb-false, lt-ltb, le-ltb}
 use Rattle.maps.specs.Map.{Involutions, Valid}
 use Rattle.maps.specs.Kernel.{Kernel}
 use Rattle.maps.specs.Folded.{On, refusedMarks, marks, level}
 use Rattle.maps.specs.Pyramid.{Pyramid}
-use Rattle.facts.proofs.Levels.{wider, base-level, valid-next, level-valid}
+use Rattle.facts.proofs.Levels.{taken-in, levels-valid, level-valid}
+use Rattle.facts.proofs.Towers.{on-below}
 use Rattle.rebasing.proofs.Renaming.{Renaming, valid-renamed, kernel-renamed, removed-renamed}
 
 -- tests of numbers that are both raised by l
@@ -86,8 +88,9 @@ module _ (a : Involutions) (n N h : ℕ) (Λ Δ : ℕ → ℕ) (y : Pyramid a n 
   base : Valid a′ n (λ d. d < N′)
   base = valid-renamed old a′ (level a n N (marks h Λ Δ) l) n (λ d. d < N′) (On N Λ l) base-renaming (level-valid a n N h Λ Δ y l low-enough)
 
-  -- level k of the new pyramid: a valid map, and level l + k of the old one
+  -- level k of the new pyramid: the kernels below it are kernels, it is a valid map, and level l + k of the old one
   pub record Alike (k : ℕ) : Type 0 where
+    pub kernels : (j : ℕ) → j < k → Kernel (New j) n (On N′ Λ′ j) (marks h′ Λ′ Δ′ j)
     pub valid : Valid (New k) n (On N′ Λ′ k)
     pub neighbour : (i d : ℕ) → i ≤ n → On N′ Λ′ k d → old (New k i d) ≡ Old k i (old d)
 
@@ -114,13 +117,15 @@ module _ (a : Involutions) (n N h : ℕ) (Λ Δ : ℕ → ℕ) (y : Pyramid a n 
   unfolding level
   alike-suc k f s =
       let e : l + suc k ≡ suc (l + k) = omega arith in
+      let kernels : (j : ℕ) → j < suc k → Kernel (New j) n (On N′ Λ′ j) (marks h′ Λ′ Δ′ j) = λ j g. below-more (λ j. Kernel (New j) n (On N′ Λ′ j) (marks h′ Λ′ Δ′ j)) k (s .kernels) (kernel k f s) j (omega arith) in
       record {
-        valid = valid-next a′ n N′ h′ Λ′ Δ′ (y .dimension) allowed k f (s .valid) (kernel k f s);
+        kernels = kernels;
+        valid = levels-valid a′ n N′ h′ Λ′ Δ′ (y .dimension) allowed base (suc k) f kernels (suc k) (omega arith);
         neighbour = λ i d li o.
-            let w = wider a′ n N′ h′ Λ′ Δ′ (y .dimension) k d o in
+            let w = on-below N′ Λ′ k d o in
             rw e
             (removed-renamed old (New k) (Old k) n (On N′ Λ′ k) (On N Λ (l + k)) (renaming k s) (marks h′ Λ′ Δ′ k) (marks h Λ Δ (l + k)) (λ d o. marks-renumbered k d (o .0))
-            (level-valid a n N h Λ Δ y (l + k) (omega (arith, below k f))) (y .kernel (l + k) (below k f)) N′ N (λ d o. o .0) (λ d o. o .0) i d li (w .0) (w .1));
+            (level-valid a n N h Λ Δ y (l + k) (omega (arith, below k f))) (y .kernel (l + k) (below k f)) N′ N (λ d o. o .0) (λ d o. o .0) i d li (w .0) (taken-in a′ n N′ h′ Λ′ Δ′ (y .dimension) allowed k d f (o .0) ∙ w .1));
       }
 
   -- every level
@@ -128,7 +133,8 @@ module _ (a : Involutions) (n N h : ℕ) (Λ Δ : ℕ → ℕ) (y : Pyramid a n 
   unfolding level
   alike zero f =
       let e : l + zero ≡ l = omega arith in
-      record { valid = base-level a′ n N′ h′ Λ′ Δ′ base; neighbour = λ i d li o. rw e (r .neighbour i d li (o .0)) }
+      let none : (j : ℕ) → j < zero → Kernel (New j) n (On N′ Λ′ j) (marks h′ Λ′ Δ′ j) = λ j g. absurd (omega arith) in
+      record { kernels = none; valid = levels-valid a′ n N′ h′ Λ′ Δ′ (y .dimension) allowed base zero f none zero (omega arith); neighbour = λ i d li o. rw e (r .neighbour i d li (o .0)) }
   alike (suc k) f = alike-suc k f (alike k (omega arith))
 
   -- it is an accepted pyramid
@@ -137,7 +143,7 @@ module _ (a : Involutions) (n N h : ℕ) (Λ Δ : ℕ → ℕ) (y : Pyramid a n 
     dimension = y .dimension;
     base = base;
     allowed = allowed;
-    kernel = λ k f. kernel k f (alike k (omega arith));
+    kernel = alike h′ (omega arith) .kernels;
   }
 
 -- tables that agree at the rows and darts there are do as well

@@ -8,6 +8,7 @@ use Rattle.facts.proofs.Star.{star-pyramid}
 use Rattle.maps.specs.NewBase.{newBase, newDarts, newHeight, newΛ, newΔ}
 use Rattle.maps.specs.Rebase.{rebaseDarts, rebaseHeight, rebaseRows, rebaseLambda, rebaseDelta, rebaseOld}
 use Rattle.maps.proofs.StarAgain.{zeros, star-again}
+use Rattle.maps.specs.Folded.{ofParts}
 use Rattle.rebasing.proofs.StartingAgain.{started-again}
 use Rattle.rebasing.proofs.PackedAgain.{PackedAgain, packed-again}
 
@@ -17,10 +18,10 @@ star-no-dearer = started-again (entry 12 (star .rows)) 2 12 2 (each (star .lambd
 
 -- what the job leaves of the star
 pub star-packed : PackedAgain 2 12 2 (star .rows) (star .lambda) (star .delta) 1
-    (rebaseDarts 2 12 2 (star .rows) (star .lambda) (star .delta) (zeros 36) 1 (zeros 12))
-    (rebaseHeight 2 12 2 (star .rows) (star .lambda) (star .delta) (zeros 36) 1 (zeros 12))
-    (rebaseRows 2 12 2 (star .rows) (star .lambda) (star .delta) (zeros 36) 1 (zeros 12))
-    (rebaseLambda 2 12 2 (star .rows) (star .lambda) (star .delta) (zeros 36) 1 (zeros 12))
-    (rebaseDelta 2 12 2 (star .rows) (star .lambda) (star .delta) (zeros 36) 1 (zeros 12))
-    (rebaseOld 2 12 2 (star .rows) (star .lambda) (star .delta) (zeros 36) 1 (zeros 12))
+    (rebaseDarts (ofParts 2 12 2 (star .rows) (star .lambda) (star .delta)) (zeros 36) 1 (zeros 12))
+    (rebaseHeight (ofParts 2 12 2 (star .rows) (star .lambda) (star .delta)) (zeros 36) 1 (zeros 12))
+    (rebaseRows (ofParts 2 12 2 (star .rows) (star .lambda) (star .delta)) (zeros 36) 1 (zeros 12))
+    (rebaseLambda (ofParts 2 12 2 (star .rows) (star .lambda) (star .delta)) (zeros 36) 1 (zeros 12))
+    (rebaseDelta (ofParts 2 12 2 (star .rows) (star .lambda) (star .delta)) (zeros 36) 1 (zeros 12))
+    (rebaseOld (ofParts 2 12 2 (star .rows) (star .lambda) (star .delta)) (zeros 36) 1 (zeros 12))
 star-packed = packed-again 2 12 2 (star .rows) (star .lambda) (star .delta) (zeros 36) 1 (zeros 12) (star-again .verdict)

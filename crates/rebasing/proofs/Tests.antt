@@ -14,6 +14,7 @@ use Rattle.maps.specs.NewBase.{newDarts}
 use Rattle.maps.specs.Rebase.{rebaseSizes, rebaseLent, rebaseTable}
 use Rattle.laws.proofs.Verdicts.{then-accepted, when-accepted}
 use Rattle.laws.proofs.Sizes.{lengths-exact}
+use Rattle.maps.specs.Folded.{ofParts}
 use Rattle.answers.specs.Numbers.{refusalOf}
 use Rattle.answers.specs.Lent.{lentOf}
 use Rattle.answers.specs.declared.Refusal.{Refusal}
@@ -27,7 +28,7 @@ module _ (n N h : ℕ) (rows lambda delta table : List ℕ) (l : ℕ) (old : Lis
   S = lentOf n N h (hasLength old N)
 
   abbrev C : Verdict
-  C = checkLent n N h rows lambda delta table
+  C = checkLent (ofParts n N h rows lambda delta) table
 
   abbrev L : Verdict
   L = number11 h l 0 0
@@ -35,11 +36,11 @@ module _ (n N h : ℕ) (rows lambda delta table : List ℕ) (l : ℕ) (old : Lis
   abbrev Z : Verdict
   Z = when (eqb D 0) (refused 2 0 0 0)
 
-  sizes-are : rebaseSizes n N h rows lambda delta table l old ≡ S
+  sizes-are : rebaseSizes (ofParts n N h rows lambda delta) old ≡ S
   unfolding rebaseSizes
   sizes-are = refl
 
-  tests : rebaseLent n N h rows lambda delta table l old ≡ (S then (C then (L then Z)))
+  tests : rebaseLent (ofParts n N h rows lambda delta) table l old ≡ (S then (C then (L then Z)))
   unfolding rebaseLent rebaseSizes
   tests = refl
 
@@ -47,11 +48,11 @@ module _ (n N h : ℕ) (rows lambda delta table : List ℕ) (l : ℕ) (old : Lis
   pub record Passed : Type 0 where
     pub sized : sizes n N h ≡ accepted
     pub old-long : length old ≡ N
-    pub checked : checkLent n N h rows lambda delta table ≡ accepted
+    pub checked : checkLent (ofParts n N h rows lambda delta) table ≡ accepted
     pub low : l ≤ h
     pub some : 1 ≤ newDarts N (each lambda) l
 
-  pub passed : rebaseLent n N h rows lambda delta table l old ≡ accepted → Passed
+  pub passed : rebaseLent (ofParts n N h rows lambda delta) table l old ≡ accepted → Passed
   unfolding number11
   passed e =
       let r = then-accepted S (C then (L then Z)) (sym tests ∙ e) in
@@ -69,15 +70,15 @@ module _ (n N h : ℕ) (rows lambda delta table : List ℕ) (l : ℕ) (old : Lis
 
   -- the verdict, and what is left in the table
   abbrev Answers : Verdict → List ℕ → Type 0
-  Answers v after = (v ≡ rebaseLent n N h rows lambda delta table l old) × (after ≡ rebaseTable n N h rows lambda delta table l old)
+  Answers v after = (v ≡ rebaseLent (ofParts n N h rows lambda delta) table l old) × (after ≡ rebaseTable (ofParts n N h rows lambda delta) table l old)
 
   -- 1 to 4 of the row of old numbers
   pub sizes-refused : (r : Refusal) → refusalOf r ≡ S → Answers (refusalOf r) table
   unfolding rebaseTable
-  sizes-refused r e = (refused-then r S (C then (L then Z)) e ∙ sym tests, refusal-keeps r (rebaseSizes n N h rows lambda delta table l old) (checkLeaves n N h rows lambda delta table) table (e ∙ sym sizes-are))
+  sizes-refused r e = (refused-then r S (C then (L then Z)) e ∙ sym tests, refusal-keeps r (rebaseSizes (ofParts n N h rows lambda delta) old) (checkLeaves (ofParts n N h rows lambda delta) table) table (e ∙ sym sizes-are))
 
-  module _ (s : accepted ≡ S) {after : List ℕ} (leaves : after ≡ checkLeaves n N h rows lambda delta table) where
-    left : after ≡ rebaseTable n N h rows lambda delta table l old
+  module _ (s : accepted ≡ S) {after : List ℕ} (leaves : after ≡ checkLeaves (ofParts n N h rows lambda delta) table) where
+    left : after ≡ rebaseTable (ofParts n N h rows lambda delta) table l old
     unfolding rebaseTable
     left = rw (sizes-are, ← s) leaves
 

@@ -13,7 +13,7 @@ use Rattle.maps.specs.Count.{count}
 use Rattle.maps.specs.Map.{Involutions}
 use Rattle.maps.specs.Mark.{stay}
 use Rattle.maps.specs.Table.{entry, each, listed, absent}
-use Rattle.maps.specs.Folded.{On, gone, survives, marks, level}
+use Rattle.maps.specs.Folded.{On, gone, survives, marks, level, ofParts}
 use Rattle.maps.specs.Pyramid.{Pyramid}
 use Rattle.maps.specs.NewBase.{kth, rank, oldNumber, newDarts, newΛ, newΔ, newBase}
 use Rattle.maps.specs.Rebase.{packed, rebaseLent, rebaseDarts, rebaseHeight, rebaseRows, rebaseLambda, rebaseDelta, rebaseOld}
@@ -112,8 +112,8 @@ pub record Twice (n N₂ h₂ N₃ h₃ : ℕ) (rows₂ lambda₂ delta₂ rows�
 module _ (n N h : ℕ) (rows lambda delta : List ℕ) (y : Pyramid (entry N rows) n N h (each lambda) (each delta)) (l N₁ h₁ : ℕ) (rows₁ lambda₁ delta₁ old₁ : List ℕ)
     (r : Renumbered (entry N rows) n N h (each lambda) (each delta) l (entry N₁ rows₁) N₁ h₁ (each lambda₁) (each delta₁) (each old₁))
     (all : N₁ ≡ newDarts N (each lambda) l) (rising : (d : ℕ) → d < N₁ → each old₁ d ≡ oldNumber N (each lambda) l d)
-    (table₂ : List ℕ) (k : ℕ) (old₂ : List ℕ) (e₂ : rebaseLent n N₁ h₁ rows₁ lambda₁ delta₁ table₂ k old₂ ≡ accepted)
-    (table₃ old₃ : List ℕ) (e₃ : rebaseLent n N h rows lambda delta table₃ (l + k) old₃ ≡ accepted) where
+    (table₂ : List ℕ) (k : ℕ) (old₂ : List ℕ) (e₂ : rebaseLent (ofParts n N₁ h₁ rows₁ lambda₁ delta₁) table₂ k old₂ ≡ accepted)
+    (table₃ old₃ : List ℕ) (e₃ : rebaseLent (ofParts n N h rows lambda delta) table₃ (l + k) old₃ ≡ accepted) where
   abbrev D₂ : ℕ
   D₂ = newDarts N₁ (each lambda₁) k
 
@@ -153,10 +153,10 @@ module _ (n N h : ℕ) (rows lambda delta : List ℕ) (y : Pyramid (entry N rows
       ∙ old-twice (entry N rows) n N h (each lambda) (each delta) y l (entry N₁ rows₁) N₁ h₁ (each lambda₁) (each delta₁) (each old₁) r all rising k x l₂
       ∙ sym (packed-at (oldNumber N (each lambda) (l + k)) D₃ absent N few₃ x lx)
 
-  pub twice : Twice n (rebaseDarts n N₁ h₁ rows₁ lambda₁ delta₁ table₂ k old₂) (rebaseHeight n N₁ h₁ rows₁ lambda₁ delta₁ table₂ k old₂) (rebaseDarts n N h rows lambda delta table₃ (l + k) old₃) (rebaseHeight n N h rows lambda delta table₃ (l + k) old₃)
-      (rebaseRows n N₁ h₁ rows₁ lambda₁ delta₁ table₂ k old₂) (rebaseLambda n N₁ h₁ rows₁ lambda₁ delta₁ table₂ k old₂) (rebaseDelta n N₁ h₁ rows₁ lambda₁ delta₁ table₂ k old₂)
-      (rebaseRows n N h rows lambda delta table₃ (l + k) old₃) (rebaseLambda n N h rows lambda delta table₃ (l + k) old₃) (rebaseDelta n N h rows lambda delta table₃ (l + k) old₃)
-      old₁ (rebaseOld n N₁ h₁ rows₁ lambda₁ delta₁ table₂ k old₂) (rebaseOld n N h rows lambda delta table₃ (l + k) old₃)
+  pub twice : Twice n (rebaseDarts (ofParts n N₁ h₁ rows₁ lambda₁ delta₁) table₂ k old₂) (rebaseHeight (ofParts n N₁ h₁ rows₁ lambda₁ delta₁) table₂ k old₂) (rebaseDarts (ofParts n N h rows lambda delta) table₃ (l + k) old₃) (rebaseHeight (ofParts n N h rows lambda delta) table₃ (l + k) old₃)
+      (rebaseRows (ofParts n N₁ h₁ rows₁ lambda₁ delta₁) table₂ k old₂) (rebaseLambda (ofParts n N₁ h₁ rows₁ lambda₁ delta₁) table₂ k old₂) (rebaseDelta (ofParts n N₁ h₁ rows₁ lambda₁ delta₁) table₂ k old₂)
+      (rebaseRows (ofParts n N h rows lambda delta) table₃ (l + k) old₃) (rebaseLambda (ofParts n N h rows lambda delta) table₃ (l + k) old₃) (rebaseDelta (ofParts n N h rows lambda delta) table₃ (l + k) old₃)
+      old₁ (rebaseOld (ofParts n N₁ h₁ rows₁ lambda₁ delta₁) table₂ k old₂) (rebaseOld (ofParts n N h rows lambda delta) table₃ (l + k) old₃)
   unfolding rebaseDarts rebaseHeight rebaseRows rebaseLambda rebaseDelta rebaseOld
   twice =
       rw (e₂, e₃)
@@ -170,27 +170,27 @@ module _ (n N h : ℕ) (rows lambda delta : List ℕ) (y : Pyramid (entry N rows
       })
 
 -- Starting again from l, and then with the fronts from k, leaves what starting again from l + k leaves.
-module _ (n N h : ℕ) (rows lambda delta table : List ℕ) (l : ℕ) (old : List ℕ) (e : rebaseLent n N h rows lambda delta table l old ≡ accepted) where
+module _ (n N h : ℕ) (rows lambda delta table : List ℕ) (l : ℕ) (old : List ℕ) (e : rebaseLent (ofParts n N h rows lambda delta) table l old ≡ accepted) where
   abbrev N₁ : ℕ
-  N₁ = rebaseDarts n N h rows lambda delta table l old
+  N₁ = rebaseDarts (ofParts n N h rows lambda delta) table l old
 
   abbrev h₁ : ℕ
-  h₁ = rebaseHeight n N h rows lambda delta table l old
+  h₁ = rebaseHeight (ofParts n N h rows lambda delta) table l old
 
   abbrev rows₁ : List ℕ
-  rows₁ = take (suc n * N₁) (rebaseRows n N h rows lambda delta table l old)
+  rows₁ = take (suc n * N₁) (rebaseRows (ofParts n N h rows lambda delta) table l old)
 
   abbrev lambda₁ : List ℕ
-  lambda₁ = take N₁ (rebaseLambda n N h rows lambda delta table l old)
+  lambda₁ = take N₁ (rebaseLambda (ofParts n N h rows lambda delta) table l old)
 
   abbrev delta₁ : List ℕ
-  delta₁ = take N₁ (rebaseDelta n N h rows lambda delta table l old)
+  delta₁ = take N₁ (rebaseDelta (ofParts n N h rows lambda delta) table l old)
 
-  pub again-twice : (table₂ : List ℕ) (k : ℕ) (old₂ : List ℕ) → rebaseLent n N₁ h₁ rows₁ lambda₁ delta₁ table₂ k old₂ ≡ accepted → (table₃ old₃ : List ℕ) → rebaseLent n N h rows lambda delta table₃ (l + k) old₃ ≡ accepted
-      → Twice n (rebaseDarts n N₁ h₁ rows₁ lambda₁ delta₁ table₂ k old₂) (rebaseHeight n N₁ h₁ rows₁ lambda₁ delta₁ table₂ k old₂) (rebaseDarts n N h rows lambda delta table₃ (l + k) old₃) (rebaseHeight n N h rows lambda delta table₃ (l + k) old₃)
-      (rebaseRows n N₁ h₁ rows₁ lambda₁ delta₁ table₂ k old₂) (rebaseLambda n N₁ h₁ rows₁ lambda₁ delta₁ table₂ k old₂) (rebaseDelta n N₁ h₁ rows₁ lambda₁ delta₁ table₂ k old₂)
-      (rebaseRows n N h rows lambda delta table₃ (l + k) old₃) (rebaseLambda n N h rows lambda delta table₃ (l + k) old₃) (rebaseDelta n N h rows lambda delta table₃ (l + k) old₃)
-      (rebaseOld n N h rows lambda delta table l old) (rebaseOld n N₁ h₁ rows₁ lambda₁ delta₁ table₂ k old₂) (rebaseOld n N h rows lambda delta table₃ (l + k) old₃)
+  pub again-twice : (table₂ : List ℕ) (k : ℕ) (old₂ : List ℕ) → rebaseLent (ofParts n N₁ h₁ rows₁ lambda₁ delta₁) table₂ k old₂ ≡ accepted → (table₃ old₃ : List ℕ) → rebaseLent (ofParts n N h rows lambda delta) table₃ (l + k) old₃ ≡ accepted
+      → Twice n (rebaseDarts (ofParts n N₁ h₁ rows₁ lambda₁ delta₁) table₂ k old₂) (rebaseHeight (ofParts n N₁ h₁ rows₁ lambda₁ delta₁) table₂ k old₂) (rebaseDarts (ofParts n N h rows lambda delta) table₃ (l + k) old₃) (rebaseHeight (ofParts n N h rows lambda delta) table₃ (l + k) old₃)
+      (rebaseRows (ofParts n N₁ h₁ rows₁ lambda₁ delta₁) table₂ k old₂) (rebaseLambda (ofParts n N₁ h₁ rows₁ lambda₁ delta₁) table₂ k old₂) (rebaseDelta (ofParts n N₁ h₁ rows₁ lambda₁ delta₁) table₂ k old₂)
+      (rebaseRows (ofParts n N h rows lambda delta) table₃ (l + k) old₃) (rebaseLambda (ofParts n N h rows lambda delta) table₃ (l + k) old₃) (rebaseDelta (ofParts n N h rows lambda delta) table₃ (l + k) old₃)
+      (rebaseOld (ofParts n N h rows lambda delta) table l old) (rebaseOld (ofParts n N₁ h₁ rows₁ lambda₁ delta₁) table₂ k old₂) (rebaseOld (ofParts n N h rows lambda delta) table₃ (l + k) old₃)
   again-twice table₂ k old₂ e₂ table₃ old₃ e₃ =
       let p = packed-again n N h rows lambda delta table l old e in
-      twice n N h rows lambda delta (lent-pyramid n N h rows lambda delta table l old e) l N₁ h₁ rows₁ lambda₁ delta₁ (rebaseOld n N h rows lambda delta table l old) (p .renumbered) (p .as-many) (p .rising) table₂ k old₂ e₂ table₃ old₃ e₃
+      twice n N h rows lambda delta (lent-pyramid n N h rows lambda delta table l old e) l N₁ h₁ rows₁ lambda₁ delta₁ (rebaseOld (ofParts n N h rows lambda delta) table l old) (p .renumbered) (p .as-many) (p .rising) table₂ k old₂ e₂ table₃ old₃ e₃

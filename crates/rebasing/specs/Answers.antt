@@ -3,6 +3,7 @@ use mathlib.Core.List.{List}
 use Prim.Native.Nat.{ℕ}
 use Rattle.maps.specs.Verdict.{Verdict, accepted}
 use Rattle.maps.specs.Rebase.{rebaseLent, rebaseDarts, rebaseHeight}
+use Rattle.maps.specs.Folded.{ofParts}
 use Rattle.answers.specs.Numbers.{refusalOf}
 use Rattle.rebasing.specs.declared.Rebased.{Rebased}
 use Rattle.rebasing.specs.declared.Rebased.the-variants.{Base, Refused}
@@ -21,7 +22,7 @@ rebasedOf N h (Refused r) = record { verdict = refusalOf r; darts = N; height = 
 -- what starting again answers
 abbrev pub rebasing : ℕ → ℕ → ℕ → List ℕ → List ℕ → List ℕ → List ℕ → ℕ → List ℕ → Outcome
 rebasing n N h rows lambda delta table l old = record {
-  verdict = rebaseLent n N h rows lambda delta table l old;
-  darts = rebaseDarts n N h rows lambda delta table l old;
-  height = rebaseHeight n N h rows lambda delta table l old;
+  verdict = rebaseLent (ofParts n N h rows lambda delta) table l old;
+  darts = rebaseDarts (ofParts n N h rows lambda delta) table l old;
+  height = rebaseHeight (ofParts n N h rows lambda delta) table l old;
 }

@@ -6,12 +6,14 @@ use answers::Check;
 use answers::Dim;
 use answers::Level;
 use answers::Refusal;
+use answers::Sizes;
 ghost use mathlib.Core.Path.{_≡_};
 ghost use Prim.Native.Nat.{_≤_};
 ghost use lib.ListN.{length};
 ghost use Rattle.maps.specs.Table.{each};
 ghost use Rattle.maps.specs.Folded.{survivors as survivorsOf};
 ghost use Rattle.maps.specs.Rebase.{rebaseLent, rebaseRows, rebaseLambda, rebaseDelta, rebaseOld, rebaseTable};
+ghost use Rattle.answers.specs.Pyramid.{given};
 ghost use Rattle.answers.specs.Numbers.{verdictOf};
 ghost use Rattle.rebasing.specs.Answers.{rebasedOf, rebasing};
 
@@ -47,13 +49,16 @@ fn tested(
     level: Level,
     old: &[u16],
 ) -> Check
-    ensures verdict { λ r. ⌜ verdictOf r ≡ rebaseLent (n .0) darts (h .0) (now (rows .entry)) (now (lambda .entry)) (now (delta .entry)) (now (table .entry)) (level .0) (now (old .entry)) ⌝ }
-    ensures table_left { λ _. ⌜ now (table .exit) ≡ rebaseTable (n .0) darts (h .0) (now (rows .entry)) (now (lambda .entry)) (now (delta .entry)) (now (table .entry)) (level .0) (now (old .entry)) ⌝ }
+    ensures verdict { λ r. ⌜ verdictOf r ≡ rebaseLent (given (n .0) darts (h .0) (rows .entry) (lambda .entry) (delta .entry)) (now (table .entry)) (level .0) (now (old .entry)) ⌝ }
+    ensures table_left { λ _. ⌜ now (table .exit) ≡ rebaseTable (given (n .0) darts (h .0) (rows .entry) (lambda .entry) (delta .entry)) (now (table .entry)) (level .0) (now (old .entry)) ⌝ }
 {
-    if let Check::Refused(r) = answers::lent(n, darts, h, answers::row_fits(darts, old.len())) {
+    if let Check::Refused(r) = answers::lent(
+        Sizes { n, h, darts },
+        answers::row_fits(darts, old.len()),
+    ) {
         return Check::Refused(r);
     }
-    if let Check::Refused(r) = checking::check(n, darts, h, rows, lambda, delta, table) {
+    if let Check::Refused(r) = checking::check(Sizes { n, h, darts }, rows, lambda, delta, table) {
         return Check::Refused(r);
     }
     if h.0 < level.0 {
@@ -78,11 +83,11 @@ pub fn rebase(
     old: &mut [u16],
 ) -> Rebased
     ensures answer { λ r. ⌜ rebasedOf darts (h .0) r ≡ rebasing (n .0) darts (h .0) (now (rows .entry)) (now (lambda .entry)) (now (delta .entry)) (now (table .entry)) (level .0) (now (old .entry)) ⌝ }
-    ensures rows_left { λ _. ⌜ now (rows .exit) ≡ rebaseRows (n .0) darts (h .0) (now (rows .entry)) (now (lambda .entry)) (now (delta .entry)) (now (table .entry)) (level .0) (now (old .entry)) ⌝ }
-    ensures lambda_left { λ _. ⌜ now (lambda .exit) ≡ rebaseLambda (n .0) darts (h .0) (now (rows .entry)) (now (lambda .entry)) (now (delta .entry)) (now (table .entry)) (level .0) (now (old .entry)) ⌝ }
-    ensures delta_left { λ _. ⌜ now (delta .exit) ≡ rebaseDelta (n .0) darts (h .0) (now (rows .entry)) (now (lambda .entry)) (now (delta .entry)) (now (table .entry)) (level .0) (now (old .entry)) ⌝ }
-    ensures table_left { λ _. ⌜ now (table .exit) ≡ rebaseTable (n .0) darts (h .0) (now (rows .entry)) (now (lambda .entry)) (now (delta .entry)) (now (table .entry)) (level .0) (now (old .entry)) ⌝ }
-    ensures old_left { λ _. ⌜ now (old .exit) ≡ rebaseOld (n .0) darts (h .0) (now (rows .entry)) (now (lambda .entry)) (now (delta .entry)) (now (table .entry)) (level .0) (now (old .entry)) ⌝ }
+    ensures rows_left { λ _. ⌜ now (rows .exit) ≡ rebaseRows (given (n .0) darts (h .0) (rows .entry) (lambda .entry) (delta .entry)) (now (table .entry)) (level .0) (now (old .entry)) ⌝ }
+    ensures lambda_left { λ _. ⌜ now (lambda .exit) ≡ rebaseLambda (given (n .0) darts (h .0) (rows .entry) (lambda .entry) (delta .entry)) (now (table .entry)) (level .0) (now (old .entry)) ⌝ }
+    ensures delta_left { λ _. ⌜ now (delta .exit) ≡ rebaseDelta (given (n .0) darts (h .0) (rows .entry) (lambda .entry) (delta .entry)) (now (table .entry)) (level .0) (now (old .entry)) ⌝ }
+    ensures table_left { λ _. ⌜ now (table .exit) ≡ rebaseTable (given (n .0) darts (h .0) (rows .entry) (lambda .entry) (delta .entry)) (now (table .entry)) (level .0) (now (old .entry)) ⌝ }
+    ensures old_left { λ _. ⌜ now (old .exit) ≡ rebaseOld (given (n .0) darts (h .0) (rows .entry) (lambda .entry) (delta .entry)) (now (table .entry)) (level .0) (now (old .entry)) ⌝ }
 {
     if let Check::Refused(r) = tested(n, darts, h, rows, lambda, delta, table, level, old) {
         return Rebased::Refused(r);

@@ -5,6 +5,7 @@ use answers::Check;
 use answers::Dim;
 use answers::Level;
 use answers::Refusal;
+use answers::Sizes;
 pub use copying::copy_bytes;
 pub use copying::copy_few_bytes;
 use copying::copy_narrow;
@@ -166,7 +167,7 @@ fn header(bytes: &[u8], n: Dim, darts: u16, h: Level) -> Check
 {
     first_of(
         field(bytes, 0, Kind::Header, 4),
-        answers::sizes(n, darts, h),
+        answers::in_range(Sizes { n, h, darts }),
     )
 }
 

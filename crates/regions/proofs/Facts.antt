@@ -1,8 +1,8 @@
 -- Regions of accepted pyramids without contraction: reaching is symmetric, an n-cell of a level lies in one region, and names join and never part. Assumes nothing.
 use mathlib.Core.Path.{_≡_, refl, sym, ap, _∙_}
 use mathlib.Core.Logic.{_⊎_, inl, inr}
-use mathlib.Core.Bool.{Bool, true, false, _&&_}
-use mathlib.Core.List.{List}
+use mathlib.Core.Bool.{Bool, true, false, cond, _&&_, true≢false}
+use mathlib.Core.List.{List, [], _∷_}
 use Prim.Native.Nat.{ℕ, zero, suc, _+_, _≤_, _<_}
 use native.Mathlib.Omega.{arith}
 use lib.Dec.{eqb, ltb}
@@ -11,33 +11,31 @@ use Rattle.maps.specs.Verdict.{accepted, scan}
 use Rattle.maps.specs.Map.{Involutions}
 use Rattle.maps.specs.Cell.{Cell, itself as cell-itself, onward}
 use Rattle.maps.specs.Orbit.{TwoWay}
-use Rattle.maps.specs.Mark.{isMark, contracts, widest, between}
+use Rattle.maps.specs.Mark.{isMark, contracts, widest, between, across}
 use Rattle.maps.specs.Removal.{goOn, removal}
 use Rattle.maps.specs.Table.{each}
 use Rattle.maps.specs.Folded.{On, gone, marks, level}
+use Rattle.maps.specs.Trail.{trail}
 use Rattle.maps.specs.Pyramid.{Pyramid}
 use Rattle.maps.specs.Regions.{Region, itself, along, over, RegionName, Named, at23}
 use Rattle.laws.proofs.Verdicts.{when-accepted, scan-accepted, and-both}
 use Rattle.laws.proofs.Marks.{Kind, removes, shrinks, kind, is-removal, removed-rows}
-use Rattle.facts.proofs.Runs.{no-both, swap, swap-fst, swap-snd, turn, Passable, Reaches}
-use Rattle.facts.proofs.Levels.{low, high, taken-is, marks-at, allowed-small, level-valid, course}
-use Rattle.orbits.proofs.Orbits.{orbit-back}
+use Rattle.laws.proofs.MarkRows.{taken-is, marks-at, allowed-small}
+use Rattle.facts.proofs.AcceptedWalks.{level-valid, Leads, trail-leads}
+use Rattle.orbits.proofs.OrbitLaws.{orbit-back}
 use Rattle.regions.specs.Searches.{regionRows}
 use Rattle.regions.proofs.Regions.{region-join, name-unique, region-suc, region-orbit, orbit-region}
 
 -- a dart marked with a dimension below n is removed with it, between two rows
-removed-low : (n : ℕ) → n ≤ widest → (Δ : ℕ → ℕ) (d : ℕ) → Δ d < n → low Δ d ≡ Δ d
-removed-low n ln Δ d s = rw (low, removed-rows n (Δ d) (le-ltb 8 (Δ d) (omega arith)) .0)
-
-removed-high : (n : ℕ) → n ≤ widest → (Δ : ℕ → ℕ) (d : ℕ) → Δ d < n → high Δ d ≡ Δ d + 1
-removed-high n ln Δ d s = rw (high, removed-rows n (Δ d) (le-ltb 8 (Δ d) (omega arith)) .0)
+removed-between : (n : ℕ) → n ≤ widest → (mark : ℕ) → mark < n → between mark ≡ (mark, mark + 1)
+removed-between n ln mark s = removed-rows n mark (le-ltb 8 mark (omega arith)) .0
 
 -- so its dimension isn't n
 never-top : (n : ℕ) → n ≤ widest → (mark : ℕ → ℕ) (d : ℕ) → (isMark n (mark d) ≡ true → mark d < n) → (isMark n (mark d) && eqb (between (mark d) .0) n) ≡ false
 never-top n ln mark d small = go (isMark n (mark d)) refl
   where
     go : (b : Bool) → isMark n (mark d) ≡ b → (isMark n (mark d) && eqb (between (mark d) .0) n) ≡ false
-    go true q = rw (q, removed-rows n (mark d) (le-ltb 8 (mark d) (omega (arith, small q))) .0, ne-eqb (mark d) n (λ e. omega (arith, small q)))
+    go true q = rw (q, removed-between n ln (mark d) (small q), ne-eqb (mark d) n (λ e. omega (arith, small q)))
     go false q = rw q
 
 -- and its removal doesn't change a_n
@@ -54,7 +52,7 @@ module _ (a : Involutions) (n N h : ℕ) (Λ Δ : ℕ → ℕ) (y : Pyramid a n 
     where
       go : Kind n (Δ d) → contracts (Δ d) ≡ false → Δ d < n
       go (removes f l) c = l
-      go (shrinks f l m) c = absurd (no-both (contracts (Δ d)) f c)
+      go (shrinks f l m) c = absurd (true≢false (sym f ∙ c))
 
   -- a_n is the same on every level
   pub level-top : (l d : ℕ) → l ≤ h → d < N → level a n N (marks h Λ Δ) l n d ≡ a n d
@@ -71,7 +69,7 @@ module _ (a : Involutions) (n N h : ℕ) (Λ Δ : ℕ → ℕ) (y : Pyramid a n 
   over-both d ld k e =
       let m : marks h Λ Δ (Λ d) d ≡ Δ d = marks-at n h Λ Δ (Λ d) d k refl in
       let s : isMark n (marks h Λ Δ (Λ d) d) ≡ true = rw m (is-removal n (Δ d) (omega arith)) in
-      let w = y .kernel (Λ d) k .whole d n (ld, omega arith) s (omega arith) (λ z. omega (arith, z ∙ ap (λ (x : ℕ). between x .0) m ∙ removed-low n (y .dimension) Δ d (omega arith))) in
+      let w = y .kernel (Λ d) k .whole d n (ld, omega arith) s (omega arith) (λ z. omega (arith, z ∙ ap (λ (x : ℕ). between x .0) m ∙ ap (λ (x : ℕ × ℕ). x .0) (removed-between n (y .dimension) (Δ d) (omega arith)))) in
       let w₁ : marks h Λ Δ (Λ d) (a n d) ≡ marks h Λ Δ (Λ d) d = rw (level-top (Λ d) d (omega arith) ld) at w in
       let t = taken-is n h Λ Δ (y .dimension) (Λ d) (a n d) (rw w₁ s) in
       (t .lambda, sym (t .mark) ∙ w₁ ∙ m)
@@ -123,21 +121,16 @@ module _ (a : Involutions) (n N h : ℕ) (Λ Δ : ℕ → ℕ) (y : Pyramid a n 
     Readable t d = (t < n) ⊎ ((t ≡ n) × (Λ d < l) × (Δ d + 1 ≡ n))
 
     -- the row by which a walk goes on from a dart that it passes
-    readable : (t d : ℕ) → d < N → gone Λ l d ≡ true → Passable a (low Δ) (high Δ) (gone Λ l) d t → Readable (turn a (low Δ) (high Δ) (gone Λ l) d t) d
-    readable t d ld q (inl e) =
+    readable : (t d : ℕ) → d < N → gone Λ l d ≡ true → Readable (across (Δ d) t) d
+    readable t d ld q =
         let b : Λ d < l = ltb-true (Λ d) l q in
         let s : Δ d < n = removed-only d ld (omega arith) in
-        let r : turn a (low Δ) (high Δ) (gone Λ l) d t ≡ Δ d + 1 = ap (swap (low Δ d) (high Δ d)) e ∙ swap-fst (low Δ d) (high Δ d) ∙ removed-high n (y .dimension) Δ d s in
-        rw r (go (ltb (Δ d + 1) n) refl b s)
+        rw (removed-between n (y .dimension) (Δ d) s) (go (eqb t (Δ d)) (ltb (Δ d + 1) n) refl b s)
       where
-        go : (b : Bool) → ltb (Δ d + 1) n ≡ b → Λ d < l → Δ d < n → Readable (Δ d + 1) d
-        go true r b s = inl (ltb-true (Δ d + 1) n r)
-        go false r b s = let f = ltb-false (Δ d + 1) n r in inr (omega arith, b, omega arith)
-    readable t d ld q (inr e) =
-        let b : Λ d < l = ltb-true (Λ d) l q in
-        let s : Δ d < n = removed-only d ld (omega arith) in
-        let r : turn a (low Δ) (high Δ) (gone Λ l) d t ≡ Δ d = ap (swap (low Δ d) (high Δ d)) e ∙ swap-snd (low Δ d) (high Δ d) ∙ removed-low n (y .dimension) Δ d s in
-        rw r (inl s)
+        go : (c e : Bool) → ltb (Δ d + 1) n ≡ e → Λ d < l → Δ d < n → Readable (cond c (Δ d + 1) (Δ d)) d
+        go true true r b s = inl (ltb-true (Δ d + 1) n r)
+        go true false r b s = let f = ltb-false (Δ d + 1) n r in inr (omega arith, b, omega arith)
+        go false e r b s = inl s
 
     read-region : (x t d : ℕ) → Readable t d → Region a n Λ Δ l x d → Region a n Λ Δ l x (a t d)
     read-region x t d (inl f) r = along d t r f
@@ -148,18 +141,15 @@ module _ (a : Involutions) (n N h : ℕ) (Λ Δ : ℕ → ℕ) (y : Pyramid a n 
     readable-le t d (inr f) = omega (arith, f .0)
 
     -- so a walk over darts gone from level l stays in the region
-    walk-region : (x p t d u e : ℕ) → d < N → Readable t d → Region a n Λ Δ l x d → Reaches a (low Δ) (high Δ) (gone Λ l) p t d u e → Region a n Λ Δ l x e
-    walk-region x zero t d u e ld f r w = rw (w .1) (read-region x t d f r)
-    walk-region x (suc p) t d u e ld f r w =
-        let d₁ = a t d in
-        let ld₁ : d₁ < N = inside t d (readable-le t d f) ld in
-        walk-region x p (turn a (low Δ) (high Δ) (gone Λ l) d₁ t) d₁ u e ld₁ (readable t d₁ ld₁ (w .0) (w .1)) (read-region x t d f r) (w .2)
+    walk-region : (x t d e : ℕ) (passed : List ℕ) → d < N → Readable t d → Region a n Λ Δ l x d → Leads a Λ Δ l t d passed e → Region a n Λ Δ l x e
+    walk-region x t d e [] ld f r w = rw w (read-region x t d f r)
+    walk-region x t d e (z ∷ passed) ld f r w =
+        let lz : z < N = rw (w .0) (inside t d (readable-le t d f) ld) in
+        walk-region x (across (Δ z) t) z e passed lz (readable t z lz (w .1)) (rw (w .0) (read-region x t d f r)) (w .3)
 
     -- a neighbour on level l by a_0 to a_(n−1) is reached
     pub neighbour-region : (d i : ℕ) → On N Λ l d → i < n → Region a n Λ Δ l d (level a n N (marks h Λ Δ) l i d)
-    neighbour-region d i o li =
-        let c = course a n N h Λ Δ y l k i d (omega arith) o in
-        walk-region d (c .0) i d i (level a n N (marks h Λ Δ) l i d) (o .0) (inl li) itself (c .1 .0)
+    neighbour-region d i o li = walk-region d i d (level a n N (marks h Λ Δ) l i d) (trail a N Λ Δ l i d) (o .0) (inl li) itself (trail-leads a n N h Λ Δ y l k i d (omega arith) o)
 
     -- so the n-cell of a survivor, by the involutions of level l, lies in its region
     pub cell-region : (x z : ℕ) → On N Λ l x → Cell (level a n N (marks h Λ Δ) l) n n x z → On N Λ l z × Region a n Λ Δ l x z

@@ -14,7 +14,7 @@ use Rattle.maps.specs.Orbit.{Orbit, here}
 use Rattle.maps.specs.Table.{entry, each}
 use Rattle.orbits.specs.Choices.{chosen}
 use Rattle.orbits.specs.Orbits.{Closed, Ready, Added, Queued}
-use Rattle.orbits.proofs.Orbits.{orbit-join, closed-orbit, orbit-present, orbit-back}
+use Rattle.orbits.proofs.OrbitLaws.{orbit-join, closed-orbit, orbit-present, orbit-back}
 use Rattle.regions.specs.Searches.{Leads, LowestIn, Lowests, Given}
 
 -- names given to the darts of a queue, one after the other

@@ -14,7 +14,8 @@ use Rattle.maps.specs.Check.{checkPyramid}
 use Rattle.maps.specs.Regions.{Named, at23, regionsLent, RegionsLeave}
 use Rattle.laws.proofs.Verdicts.{then-accepted, when-accepted}
 use Rattle.laws.proofs.Sizes.{sizes-sized}
-use Rattle.facts.proofs.Checks.{check-pyramid}
+use Rattle.maps.specs.Folded.{ofParts}
+use Rattle.facts.proofs.AcceptedWalks.{check-pyramid}
 use Rattle.regions.proofs.Facts.{RegionFacts, region-facts}
 
 module _ (n N h : ℕ) (rows lambda delta table : List ℕ) (l : ℕ) (names left : List ℕ) where
@@ -26,7 +27,7 @@ module _ (n N h : ℕ) (rows lambda delta table : List ℕ) (l : ℕ) (names lef
     pub named : Named (entry N rows) n N (each lambda) (each delta) l left
     pub facts : RegionFacts (entry N rows) n N h (each lambda) (each delta) pyramid plain l left
 
-  row-promises : regionsLent n N h rows lambda delta table l names ≡ accepted → Named (entry N rows) n N (each lambda) (each delta) l left → Promised
+  row-promises : regionsLent (ofParts n N h rows lambda delta) table l names ≡ accepted → Named (entry N rows) n N (each lambda) (each delta) l left → Promised
   unfolding regionsLent number11
   row-promises e row =
       let exact = hasLength names N && (hasLength rows (suc n * N) && (hasLength lambda N && (hasLength delta N && hasLength table (suc n * N)))) in
@@ -40,5 +41,5 @@ module _ (n N h : ℕ) (rows lambda delta table : List ℕ) (l : ℕ) (names lef
       let k = ltb-false h l (when-accepted (ltb h l) 11 l 0 0 (u .0)) in
       record { pyramid = y; plain = u .1; level = k; named = row; facts = region-facts (entry N rows) n N h (each lambda) (each delta) y (u .1) l k left row }
 
-  pub naming-promises : regionsLent n N h rows lambda delta table l names ≡ accepted → RegionsLeave n N h rows lambda delta table l names (regionsLent n N h rows lambda delta table l names) left → Promised
+  pub naming-promises : regionsLent (ofParts n N h rows lambda delta) table l names ≡ accepted → RegionsLeave (ofParts n N h rows lambda delta) l names (regionsLent (ofParts n N h rows lambda delta) table l names) left → Promised
   naming-promises e given = row-promises e (rw e at given)

@@ -14,12 +14,12 @@ use Rattle.maps.specs.Orbit.{Orbit, here, further}
 use Rattle.maps.specs.Mark.{isMark, between, hasBeyond, beyond}
 use Rattle.maps.specs.Removal.{goOn, removal}
 use Rattle.maps.specs.Table.{entry, each}
-use Rattle.maps.specs.Folded.{level}
+use Rattle.maps.specs.Folded.{level, Folded}
 use Rattle.maps.specs.Check.{at5, at6, at7, check5, check6, check7, checkMap, at9, at10, check9, check10, checkKernel, at8, check8, kernelAt, checkKernels, checkPyramid}
 use Rattle.maps.specs.Regions.{Named}
-use Rattle.maps.proofs.Small.{Lent, verdict, neighbour, corners}
+use Rattle.maps.proofs.Small.{verdict, neighbour, corners}
 use Rattle.laws.proofs.Verdicts.{scan-accepted, when-accepted, and-both}
-use Rattle.orbits.proofs.Orbits.{orbit-join}
+use Rattle.orbits.proofs.OrbitLaws.{orbit-join}
 use Rattle.regions.specs.Searches.{regionRows, Lowests}
 use Rattle.regions.proofs.Regions.{lowests-named}
 
@@ -35,7 +35,7 @@ abbrev downward : ℕ → ℕ
 downward d = cond (eqb (d % 2) 0) 1 0
 
 -- what tells of a row of names that it is the name row
-module _ (p : Lent) (l : ℕ) (names : List ℕ) where
+module _ (p : Folded) (l : ℕ) (names : List ℕ) where
   abbrev a : Involutions
   a = entry p.N p.rows
 
@@ -116,7 +116,7 @@ unfolding scan
 square-names-2 = record { long = refl; steadies = refl; low = refl; down = refl }
 
 -- A path of three edges, the middle one removed: its region has two boundaries then.
-abbrev pub path : Lent
+abbrev pub path : Folded
 path = record {
   n = 2;
   N = 12;

@@ -13,7 +13,8 @@ use Rattle.maps.specs.CheckPyramid.{checkLent, checkLeaves}
 use Rattle.maps.specs.Accepted.{Accepted}
 use Rattle.maps.specs.Regions.{at23, regionsLent, regionsTable, RegionsLeave}
 use Rattle.laws.proofs.Verdicts.{then-two, then-three}
-use Rattle.facts.proofs.ExactJobs.{check-accepts}
+use Rattle.maps.specs.Folded.{ofParts}
+use Rattle.facts.proofs.AcceptedWalks.{check-accepts}
 use Rattle.answers.specs.Numbers.{refusalOf}
 use Rattle.answers.specs.Lent.{lentOf}
 use Rattle.answers.specs.declared.Refusal.{Refusal}
@@ -26,17 +27,17 @@ use Rattle.regions.proofs.Facts.{region-two-way}
 
 module _ (n N h : ℕ) (rows lambda delta table : List ℕ) (l : ℕ) (names : List ℕ) where
   abbrev verdict : Verdict
-  verdict = regionsLent n N h rows lambda delta table l names
+  verdict = regionsLent (ofParts n N h rows lambda delta) table l names
 
   -- the answer, and what is left in the table and the name row
   abbrev pub Answers : Verdict → List ℕ → List ℕ → Type 0
-  Answers v tabled named = (v ≡ verdict) × (tabled ≡ regionsTable n N h rows lambda delta table l names) × RegionsLeave n N h rows lambda delta table l names verdict named
+  Answers v tabled named = (v ≡ verdict) × (tabled ≡ regionsTable (ofParts n N h rows lambda delta) table l names) × RegionsLeave (ofParts n N h rows lambda delta) l names verdict named
 
   -- a refusal leaves the name row as found
-  found : (k m i d : ℕ) → verdict ≡ refused k m i d → RegionsLeave n N h rows lambda delta table l names verdict names
+  found : (k m i d : ℕ) → verdict ≡ refused k m i d → RegionsLeave (ofParts n N h rows lambda delta) l names verdict names
   found k m i d e = rw e refl
 
-  refused-leaves : (r : Refusal) → refusalOf r ≡ verdict → RegionsLeave n N h rows lambda delta table l names verdict names
+  refused-leaves : (r : Refusal) → refusalOf r ≡ verdict → RegionsLeave (ofParts n N h rows lambda delta) l names verdict names
   refused-leaves r e = let x = refusal-refuses r in found (x .number) (x .level) (x .involution) (x .dart) (sym e ∙ x .is)
 
   -- a name row of another length
@@ -51,16 +52,16 @@ module _ (n N h : ℕ) (rows lambda delta table : List ℕ) (l : ℕ) (names : L
       first accepted = rw q refl
       first (refused k m i d) = refl
 
-      leaves : (s : Verdict) → verdict ≡ (s then number4 false) → RegionsLeave n N h rows lambda delta table l names verdict names
+      leaves : (s : Verdict) → verdict ≡ (s then number4 false) → RegionsLeave (ofParts n N h rows lambda delta) l names verdict names
       leaves accepted e = found 4 0 0 0 e
       leaves (refused k m i d) e = found k m i d e
 
   module _ (fit : hasLength names N ≡ true) where
-    left : checkLeaves n N h rows lambda delta table ≡ regionsTable n N h rows lambda delta table l names
+    left : checkLeaves (ofParts n N h rows lambda delta) table ≡ regionsTable (ofParts n N h rows lambda delta) table l names
     unfolding regionsTable
     left = rw fit
 
-    tests : verdict ≡ (checkLent n N h rows lambda delta table then (number11 h l 0 0 then scan N (at23 (each delta))))
+    tests : verdict ≡ (checkLent (ofParts n N h rows lambda delta) table then (number11 h l 0 0 then scan N (at23 (each delta))))
     unfolding regionsLent checkLent
     tests =
         let exact = hasLength rows (suc n * N) && (hasLength lambda N && (hasLength delta N && hasLength table (suc n * N))) in
@@ -70,18 +71,18 @@ module _ (n N h : ℕ) (rows lambda delta table : List ℕ) (l : ℕ) (names : L
         rw fit (then-three (sizes n N h) (number4 exact) checked rest ∙ all)
 
     -- what the check refuses
-    pub check-refused : (r : Refusal) → refusalOf r ≡ checkLent n N h rows lambda delta table → Answers (refusalOf r) (checkLeaves n N h rows lambda delta table) names
+    pub check-refused : (r : Refusal) → refusalOf r ≡ checkLent (ofParts n N h rows lambda delta) table → Answers (refusalOf r) (checkLeaves (ofParts n N h rows lambda delta) table) names
     check-refused r e = let v = refused-first verdict _ _ tests r e in (v, left, refused-leaves r v)
 
-    module _ (e : accepted ≡ checkLent n N h rows lambda delta table) where
-      pub accepts : Accepted n N h rows lambda delta table
-      accepts = check-accepts n N h rows lambda delta table (sym e)
+    module _ (e : accepted ≡ checkLent (ofParts n N h rows lambda delta) table) where
+      pub accepts : Accepted (ofParts n N h rows lambda delta) table
+      accepts = check-accepts (ofParts n N h rows lambda delta) table (sym e)
 
-      after : (r : Refusal) → refusalOf r ≡ (number11 h l 0 0 then scan N (at23 (each delta))) → Answers (refusalOf r) (checkLeaves n N h rows lambda delta table) names
+      after : (r : Refusal) → refusalOf r ≡ (number11 h l 0 0 then scan N (at23 (each delta))) → Answers (refusalOf r) (checkLeaves (ofParts n N h rows lambda delta) table) names
       after r f = let v = refused-second verdict _ _ tests r e f in (v, left, refused-leaves r v)
 
       -- a level that is too high
-      pub too-high : h < l → Answers (refused 11 l 0 0) (checkLeaves n N h rows lambda delta table) names
+      pub too-high : h < l → Answers (refused 11 l 0 0) (checkLeaves (ofParts n N h rows lambda delta) table) names
       unfolding number11
       too-high k = after (NoLevel (record { 0 = l }) (record { 0 = 0 }) 0) (rw (lt-ltb h l k))
 
@@ -91,7 +92,7 @@ module _ (n N h : ℕ) (rows lambda delta table : List ℕ) (l : ℕ) (names : L
         low = rw (le-ltb h l k)
 
         -- a contracted dart
-        pub shrunk : (r : Refusal) → refusalOf r ≡ scan N (at23 (each delta)) → Answers (refusalOf r) (checkLeaves n N h rows lambda delta table) names
+        pub shrunk : (r : Refusal) → refusalOf r ≡ scan N (at23 (each delta)) → Answers (refusalOf r) (checkLeaves (ofParts n N h rows lambda delta) table) names
         shrunk r f = after r (rw low f)
 
         module _ (plain : accepted ≡ scan N (at23 (each delta))) (choices : List ℕ) (is : RegionChoices n N (each lambda) (each delta) l choices) where
@@ -112,7 +113,7 @@ module _ (n N h : ℕ) (rows lambda delta table : List ℕ) (l : ℕ) (names : L
               }
 
           -- all is named
-          pub all-named : (new : List ℕ) → Lowests (entry N rows) n N (chosen choices) new → Answers accepted (checkLeaves n N h rows lambda delta table) new
+          pub all-named : (new : List ℕ) → Lowests (entry N rows) n N (chosen choices) new → Answers accepted (checkLeaves (ofParts n N h rows lambda delta) table) new
           all-named new low-row =
               let v : verdict ≡ accepted = sym (accepted-both verdict _ _ tests e (sym (rw low (sym plain)))) in
               (sym v, left, rw v (lowests-named (entry N rows) n (each lambda) (each delta) l N inside (chosen choices) is new low-row))

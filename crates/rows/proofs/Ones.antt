@@ -91,16 +91,16 @@ count-below q N more =
 
 module _ (N h : ℕ) (lambda : List ℕ) (l : ℕ) (words : List ℕ) where
   -- a word has at most 64 ones
-  pub word-few : (w : ℕ) → ones (word N h lambda l words w) ≤ 64
+  pub word-few : (w : ℕ) → ones (word N (each lambda) l w) ≤ 64
   unfolding word
-  word-few w = ones-le 64 (word N h lambda l words w) (digits-lt (bit N h lambda l words w) 64)
+  word-few w = ones-le 64 (word N (each lambda) l w) (digits-lt (bit N (each lambda) l w) 64)
 
   -- the ones in the words are as many as the survivors
-  pub words-count : N ≤ 4096 → sum (λ w. ones (word N h lambda l words w)) 64 ≡ survivors N (each lambda) l
+  pub words-count : N ≤ 4096 → sum (λ w. ones (word N (each lambda) l w)) 64 ≡ survivors N (each lambda) l
   unfolding word
   words-count f =
       let q = survives (each lambda) l in
       let p : ℕ → Bool = λ d. ltb d N && q d in
       let all : 64 * 64 ≡ N + (4096 - N) = omega arith in
-      sum-same (λ w. ones (word N h lambda l words w)) (λ w. count (bit N h lambda l words w) 64) 64 (λ w k. ones-digits (bit N h lambda l words w) 64)
+      sum-same (λ w. ones (word N (each lambda) l w)) (λ w. count (bit N (each lambda) l w) 64) 64 (λ w k. ones-digits (bit N (each lambda) l w) 64)
       ∙ count-words p 64 ∙ ap (count p) all ∙ count-below q N (4096 - N)

@@ -19,6 +19,6 @@ pub survivors-counted : (N h : ℕ) (lambda : List ℕ) (l : ℕ) (words : List 
 unfolding survivorCount
 survivors-counted N h lambda l words e =
     let fit = hasLength lambda N && hasLength words 64 in
-    let r = then-accepted (askedOf 1 N h fit l 0 0) (scan N (atLambda8 N h lambda l [])) (rw (survivors-lent N h lambda l words) at e) in
+    let r = then-accepted (askedOf 1 N h fit l 0 0) (scan N (atLambda8 h (each lambda) l)) (rw (survivors-lent N h lambda l words) at e) in
     let s = lent-sized 1 N h fit (then-accepted (lentOf 1 N h fit) (number11 h l 0 0) (r .0) .0) in
     rw e (words-count N h lambda l words (s .0 .darts))

@@ -13,16 +13,18 @@ use answers::Dim;
 use answers::Level;
 use answers::Mark;
 use answers::Question;
+use answers::STAY;
+use answers::Sizes;
 
 // Δ where Λ is that level, else 255; for level h 255.
 fn mark_at(h: Level, lambda: Level, delta: Mark, level: Level) -> Mark
     ensures { λ r. ⌜ r .0 ≡ cond (ltb (level .0) (h .0) && eqb (lambda .0) (level .0)) (delta .0) stay ⌝ }
 {
     if h.0 <= level.0 {
-        return Mark(255);
+        return Mark(STAY);
     }
-    if lambda.0 != level.0 {
-        return Mark(255);
+    if !answers::in_kernel(lambda, level) {
+        return Mark(STAY);
     }
     delta
 }
@@ -33,40 +35,33 @@ fn fill_marks(h: Level, lambda: &[u8], delta: &[u8], level: Level, out: &mut [u8
     ensures { λ _. ⌜ now (out .exit) ≡ listed (marks (h .0) (each (now (lambda .entry))) (each (now (delta .entry))) (level .0)) (length (now (out .entry))) ⌝ }
 {
     for d in 0..out.len() {
-        let mark = mark_at(h, Level(lambda[d]), Mark(delta[d]), level);
+        let own = answers::lambda_at(lambda, d);
+        let mark = mark_at(h, own, answers::delta_at(delta, d), level);
         out[d] = mark.0;
     }
 }
 
 // The mark row of a level, read back. After a refusal nothing lent has changed.
-pub fn marks_of(
-    n: Dim,
-    darts: u16,
-    h: Level,
-    lambda: &[u8],
-    delta: &[u8],
-    level: Level,
-    out: &mut [u8],
-) -> Check
-    ensures verdict { λ r. ⌜ verdictOf r ≡ marksLent (n .0) darts (h .0) (now (lambda .entry)) (now (delta .entry)) (level .0) (now (out .entry)) ⌝ }
-    ensures out_left { λ _. ⌜ now (out .exit) ≡ marksLeaves (n .0) darts (h .0) (now (lambda .entry)) (now (delta .entry)) (level .0) (now (out .entry)) ⌝ }
+pub fn marks_of(sizes: Sizes, lambda: &[u8], delta: &[u8], level: Level, out: &mut [u8]) -> Check
+    ensures verdict { λ r. ⌜ verdictOf r ≡ marksLent (sizes .n .0) (sizes .darts) (sizes .h .0) (now (lambda .entry)) (now (delta .entry)) (level .0) (now (out .entry)) ⌝ }
+    ensures out_left { λ _. ⌜ now (out .exit) ≡ marksLeaves (sizes .n .0) (sizes .darts) (sizes .h .0) (now (lambda .entry)) (now (delta .entry)) (level .0) (now (out .entry)) ⌝ }
 {
     let marks_fit = answers::both(
-        answers::row_fits(darts, delta.len()),
-        answers::row_fits(darts, out.len()),
+        answers::row_fits(sizes.darts, delta.len()),
+        answers::row_fits(sizes.darts, out.len()),
     );
-    let fit = answers::both(answers::row_fits(darts, lambda.len()), marks_fit);
+    let fit = answers::both(answers::row_fits(sizes.darts, lambda.len()), marks_fit);
     let question = Question {
         level,
         involution: Dim(0),
         dart: 0,
     };
-    if let Check::Refused(r) = answers::asked(n, darts, h, fit, question) {
+    if let Check::Refused(r) = answers::asked(sizes, fit, question) {
         return Check::Refused(r);
     }
-    if let Check::Refused(r) = answers::marks_refusal(n, darts, h, lambda, delta, level) {
+    if let Check::Refused(r) = answers::marks_refusal(sizes, lambda, delta, level) {
         return Check::Refused(r);
     }
-    fill_marks(h, lambda, delta, level, out);
+    fill_marks(sizes.h, lambda, delta, level, out);
     Check::Accepted
 }

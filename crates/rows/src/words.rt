@@ -17,24 +17,26 @@ use answers::Dim;
 use answers::Level;
 use answers::Question;
 use answers::Refusal;
+use answers::Sizes;
 
 // A level that no Λ is above: the largest, found without a way out of the loop, so that it is found many darts at a time.
 fn largest(lambda: &[u8]) -> Level
     ensures { λ r. ⌜ ((d : ℕ) → d < length (now (lambda .entry)) → each (now (lambda .entry)) d ≤ r .0) ⌝ }
 {
-    let mut most: u8 = 0;
+    let mut most = Level(0);
     for d in 0..lambda.len() {
-        if most < lambda[d] {
-            most = lambda[d];
+        let own = answers::lambda_at(lambda, d);
+        if most.0 < own.0 {
+            most = own;
         }
     }
-    Level(most)
+    most
 }
 
 // Number 8 of Λ alone, over all darts, with the level asked.
 fn lambda_tested(darts: u16, h: Level, lambda: &[u8], level: Level) -> Check
     requires { ⌜ length (now lambda) ≡ darts ⌝ }
-    ensures { λ r. ⌜ verdictOf r ≡ scan darts (atLambda8 darts (h .0) (now (lambda .entry)) (level .0) []) ⌝ }
+    ensures { λ r. ⌜ verdictOf r ≡ scan darts (atLambda8 (h .0) (each (now (lambda .entry))) (level .0)) ⌝ }
 {
     let most = largest(lambda);
     if most.0 <= h.0 {
@@ -46,10 +48,11 @@ fn lambda_tested(darts: u16, h: Level, lambda: &[u8], level: Level) -> Check
 // The first dart that number 8 of Λ alone names.
 fn first_above(darts: u16, h: Level, lambda: &[u8], level: Level) -> Check
     requires { ⌜ length (now lambda) ≡ darts ⌝ }
-    ensures { λ r. ⌜ verdictOf r ≡ scan darts (atLambda8 darts (h .0) (now (lambda .entry)) (level .0) []) ⌝ }
+    ensures { λ r. ⌜ verdictOf r ≡ scan darts (atLambda8 (h .0) (each (now (lambda .entry))) (level .0)) ⌝ }
 {
     for d in 0..darts {
-        if h.0 < lambda[d as usize] {
+        let own = answers::lambda_at(lambda, d as usize);
+        if h.0 < own.0 {
             return Check::Refused(Refusal::Marks(level, Dim(0), d));
         }
     }
@@ -74,13 +77,13 @@ fn in_word(darts: usize, w: usize) -> usize
 // Word w: dart 64 w + b at bit b.
 fn word(lambda: &[u8], level: Level, w: usize) -> u64
     requires { ⌜ w < 64 ⌝ }
-    ensures { λ r. ⌜ r ≡ wordOf (length (now (lambda .entry))) 0 (now (lambda .entry)) (level .0) [] w ⌝ }
+    ensures { λ r. ⌜ r ≡ wordOf (length (now (lambda .entry))) (each (now (lambda .entry))) (level .0) w ⌝ }
 {
     let first = w * 64;
     let many = in_word(lambda.len(), w);
     let mut x: u64 = 0;
     for b in 0..many {
-        if level.0 <= lambda[first + b] {
+        if !answers::is_gone(answers::lambda_at(lambda, first + b), level) {
             x = x | (1u64 << b);
         }
     }
@@ -90,8 +93,8 @@ fn word(lambda: &[u8], level: Level, w: usize) -> u64
 // All 64 words, and the number of ones in them.
 fn fill_words(lambda: &[u8], level: Level, words: &mut [u64]) -> u32
     requires { ⌜ (length (now lambda) ≤ 4096) × (length (now words) ≡ 64) ⌝ }
-    ensures answer { λ r. ⌜ r ≡ sum (λ w. ones (wordOf (length (now (lambda .entry))) 0 (now (lambda .entry)) (level .0) [] w)) 64 ⌝ }
-    ensures words_left { λ _. ⌜ now (words .exit) ≡ listed (wordOf (length (now (lambda .entry))) 0 (now (lambda .entry)) (level .0) []) 64 ⌝ }
+    ensures answer { λ r. ⌜ r ≡ sum (λ w. ones (wordOf (length (now (lambda .entry))) (each (now (lambda .entry))) (level .0) w)) 64 ⌝ }
+    ensures words_left { λ _. ⌜ now (words .exit) ≡ listed (wordOf (length (now (lambda .entry))) (each (now (lambda .entry))) (level .0)) 64 ⌝ }
 {
     let mut count: u32 = 0;
     for w in 0..64usize {
@@ -114,7 +117,12 @@ pub fn survivors(darts: u16, h: Level, lambda: &[u8], level: Level, words: &mut 
         involution: Dim(0),
         dart: 0,
     };
-    if let Check::Refused(r) = answers::asked(Dim(1), darts, h, fit, question) {
+    let sizes = Sizes {
+        n: Dim(1),
+        h,
+        darts,
+    };
+    if let Check::Refused(r) = answers::asked(sizes, fit, question) {
         return Survivors::Refused(r);
     }
     if let Check::Refused(r) = lambda_tested(darts, h, lambda, level) {

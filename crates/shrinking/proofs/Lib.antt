@@ -1,3 +1,2 @@
-mod Counted
 mod Whole
 pub mod Exact

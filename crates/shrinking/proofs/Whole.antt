@@ -10,7 +10,7 @@ use borrow.Author.Tests.{le-leb, lt-leb}
 use Rattle.maps.specs.Verdict.{Verdict, accepted, refused, when, _then_}
 use Rattle.maps.specs.Count.{one}
 use Rattle.maps.specs.Table.{each}
-use Rattle.maps.specs.Folded.{survivors}
+use Rattle.maps.specs.Folded.{survivors, ofParts, Folded}
 use Rattle.maps.specs.CheckPyramid.{checkLent}
 use Rattle.maps.specs.Accepted.{Accepted}
 use Rattle.maps.specs.Decimation.{double, quotient, decimationLent, decimationEmpty, decimationFactor}
@@ -30,14 +30,16 @@ said : (none : Bool) (factor : Float) → factorOf (cond none Empty (By factor))
 said true factor = refl
 said false factor = refl
 
-module _ (n N h : ℕ) (rows lambda delta table : List ℕ) (l : ℕ) where
+module _ (P : Folded) (table : List ℕ) (l : ℕ) where
+  open Folded P using (n, N, h, rows, lambda, delta)
+
   abbrev verdict : Verdict
-  verdict = decimationLent n N h rows lambda delta table l
+  verdict = decimationLent P table l
 
   abbrev Answers : Outcome → Type 0
-  Answers o = o ≡ decimating n N h rows lambda delta table l
+  Answers o = o ≡ decimating P table l
 
-  tests : verdict ≡ (checkLent n N h rows lambda delta table then when (leb h l) (refused 11 l 0 0))
+  tests : verdict ≡ (checkLent P table then when (leb h l) (refused 11 l 0 0))
   unfolding decimationLent
   tests = refl
 
@@ -50,12 +52,12 @@ module _ (n N h : ℕ) (rows lambda delta table : List ℕ) (l : ℕ) where
       λ i. record { verdict = e i; empty = empty i; factor = factor i }
 
   -- what the check refuses
-  pub check-refused : (r : Refusal) → refusalOf r ≡ checkLent n N h rows lambda delta table → Answers (factorOf (Refused r))
+  pub check-refused : (r : Refusal) → refusalOf r ≡ checkLent P table → Answers (factorOf (Refused r))
   check-refused r e = not-answered r (refused-first verdict _ _ tests r e)
 
-  module _ (e : accepted ≡ checkLent n N h rows lambda delta table) where
-    pub accepts : Accepted n N h rows lambda delta table
-    accepts = check-accepts n N h rows lambda delta table (sym e)
+  module _ (e : accepted ≡ checkLent P table) where
+    pub accepts : Accepted P table
+    accepts = check-accepts P table (sym e)
 
     -- a level that has no next
     pub no-next : (r : Refusal) → refusalOf r ≡ refused 11 l 0 0 → h ≤ l → Answers (factorOf (Refused r))

@@ -6,6 +6,7 @@ use lib.Dec.{eqb}
 use lib.Ieee.{Float}
 use Rattle.maps.specs.Verdict.{Verdict, accepted}
 use Rattle.maps.specs.Decimation.{double, quotient, decimationLent, decimationEmpty, decimationFactor}
+use Rattle.maps.specs.Folded.{Folded}
 use Rattle.answers.specs.Numbers.{refusalOf}
 use Rattle.shrinking.specs.declared.Factor.{Factor}
 use Rattle.shrinking.specs.declared.Factor.the-variants.{By, Empty, Refused}
@@ -27,6 +28,5 @@ abbrev pub factorBetween : ℕ → ℕ → Factor
 factorBetween count next = cond (eqb next 0) Empty (By (quotient count next))
 
 -- what is answered of a level
-abbrev pub decimating : ℕ → ℕ → ℕ → List ℕ → List ℕ → List ℕ → List ℕ → ℕ → Outcome
-decimating n N h rows lambda delta table l =
-    record { verdict = decimationLent n N h rows lambda delta table l; empty = decimationEmpty n N h rows lambda delta table l; factor = decimationFactor n N h rows lambda delta table l }
+abbrev pub decimating : Folded → List ℕ → ℕ → Outcome
+decimating f table l = record { verdict = decimationLent f table l; empty = decimationEmpty f table l; factor = decimationFactor f table l }

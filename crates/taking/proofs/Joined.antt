@@ -15,6 +15,7 @@ use Rattle.maps.specs.Record.{Allowed, field, recordDimension, recordHeight, re
 use Rattle.laws.proofs.Verdicts.{then-accepted, and-both}
 use Rattle.laws.proofs.Tables.{length-listed, table-size}
 use Rattle.laws.proofs.Sizes.{Sized, sizes-sized, lengths-exact}
+use Rattle.maps.specs.Folded.{ofParts}
 use Rattle.answers.specs.Numbers.{refusalOf}
 use Rattle.answers.specs.declared.Refusal.{Refusal}
 use Rattle.answers.proofs.Refusals.{refusal-keeps, refusal-refuses, refused-first, refused-second, accepted-both}
@@ -108,7 +109,7 @@ module _ (b : List ℕ) (allowed : Allowed) (rows lambda delta table : List ℕ)
 
   -- the check of what the record holds
   abbrev checks : Verdict
-  checks = checkLent (recordDimension b) (recordDarts b) (recordHeight b) (recordRows b allowed) (recordLambda b allowed) (recordDelta b allowed) (take m table)
+  checks = checkLent (ofParts (recordDimension b) (recordDarts b) (recordHeight b) (recordRows b allowed) (recordLambda b allowed) (recordDelta b allowed)) (take m table)
 
   tests : takeLent b allowed rows lambda delta table ≡ lent then checks
   unfolding takeLent
@@ -116,7 +117,7 @@ module _ (b : List ℕ) (allowed : Allowed) (rows lambda delta table : List ℕ)
 
   -- a record that is taken: it is unpacked, and the check accepts it
   pub taken-both : takeLent b allowed rows lambda delta table ≡ accepted → (recordLent b allowed rows lambda delta table ≡ accepted)
-      × (checkLent (recordDimension b) (recordDarts b) (recordHeight b) (recordRows b allowed) (recordLambda b allowed) (recordDelta b allowed) (take (suc (recordDimension b) * recordDarts b) table) ≡ accepted)
+      × (checkLent (ofParts (recordDimension b) (recordDarts b) (recordHeight b) (recordRows b allowed) (recordLambda b allowed) (recordDelta b allowed)) (take (suc (recordDimension b) * recordDarts b) table) ≡ accepted)
   taken-both e = then-accepted lent checks (sym tests ∙ e)
 
   -- the answer, and what is left in the table
@@ -155,19 +156,19 @@ module _ (b : List ℕ) (allowed : Allowed) (rows lambda delta table : List ℕ)
       handed-on = rw (r, l, d, dimension-is, darts-is) (in-slices fine)
 
       -- the check of what is handed on is the check of what the record holds
-      check-is : checkLent n N h (take (suc n * N) rows′) (take N lambda′) (take N delta′) (take (suc n * N) table) ≡ checks
+      check-is : checkLent (ofParts n N h (take (suc n * N) rows′) (take N lambda′) (take N delta′)) (take (suc n * N) table) ≡ checks
       check-is = rw (r, l, d, dimension-is, darts-is, height-is, rows-front fine, lambda-front fine, delta-front fine)
 
-      module _ {after : List ℕ} (t : after ≡ checkLeaves n N h (take (suc n * N) rows′) (take N lambda′) (take N delta′) (take (suc n * N) table) ++ drop (suc n * N) table) where
+      module _ {after : List ℕ} (t : after ≡ checkLeaves (ofParts n N h (take (suc n * N) rows′) (take N lambda′) (take N delta′)) (take (suc n * N) table) ++ drop (suc n * N) table) where
         table-left : after ≡ takeTable b allowed rows lambda delta table
         unfolding takeTable
         table-left = t ∙ rw (r, l, d, dimension-is, darts-is, height-is, rows-front fine, lambda-front fine, delta-front fine, fine)
 
         -- a pyramid that is refused, and one that is accepted
-        pub check-refused : (why : Refusal) → refusalOf why ≡ checkLent n N h (take (suc n * N) rows′) (take N lambda′) (take N delta′) (take (suc n * N) table) → Answers (saying (refusalOf why) 0 0 0) after
+        pub check-refused : (why : Refusal) → refusalOf why ≡ checkLent (ofParts n N h (take (suc n * N) rows′) (take N lambda′) (take N delta′)) (take (suc n * N) table) → Answers (saying (refusalOf why) 0 0 0) after
         check-refused why v = (says-refused why (refused-second _ lent checks tests why (sym fine) (v ∙ check-is)), table-left)
 
-        pub check-accepted : accepted ≡ checkLent n N h (take (suc n * N) rows′) (take N lambda′) (take N delta′) (take (suc n * N) table) → Answers (saying accepted n h N) after
+        pub check-accepted : accepted ≡ checkLent (ofParts n N h (take (suc n * N) rows′) (take N lambda′) (take N delta′)) (take (suc n * N) table) → Answers (saying accepted n h N) after
         check-accepted v =
             let f : takeLent b allowed rows lambda delta table ≡ accepted = sym (accepted-both _ lent checks tests (sym fine) (v ∙ check-is)) in
             (rw (f, dimension-is, height-is, darts-is), table-left)

@@ -2,6 +2,7 @@
 use answers::Check;
 use answers::Dim;
 use answers::Level;
+use answers::Sizes;
 use records::Allowed;
 use records::Taken;
 ghost use mathlib.Core.Path.{_≡_};
@@ -10,6 +11,7 @@ ghost use Prim.Native.Nat.{suc, _*_, _≤_};
 ghost use lib.ListN.{length, take as first, drop};
 ghost use Rattle.maps.specs.CheckPyramid.{checkLent, checkLeaves};
 ghost use Rattle.maps.specs.Record.{wide, takeRows, takeLambda, takeDelta, takeTable};
+ghost use Rattle.maps.specs.Folded.{ofParts};
 ghost use Rattle.answers.specs.Numbers.{verdictOf};
 ghost use Rattle.records.specs.Answers.{takenOf};
 ghost use Rattle.taking.specs.Answers.{taken};
@@ -25,15 +27,13 @@ fn check_front(
     table: &mut [u16],
 ) -> Check
     requires { ⌜ (n .0 ≤ 4) × (darts ≤ 4096) × (suc (n .0) * darts ≤ length (now rows)) × (darts ≤ length (now lambda)) × (darts ≤ length (now delta)) × (suc (n .0) * darts ≤ length (now table)) ⌝ }
-    ensures verdict { λ r. ⌜ verdictOf r ≡ checkLent (n .0) darts (h .0) (first (suc (n .0) * darts) (now (rows .entry))) (first darts (now (lambda .entry))) (first darts (now (delta .entry))) (first (suc (n .0) * darts) (now (table .entry))) ⌝ }
-    ensures table_left { λ _. ⌜ now (table .exit) ≡ checkLeaves (n .0) darts (h .0) (first (suc (n .0) * darts) (now (rows .entry))) (first darts (now (lambda .entry))) (first darts (now (delta .entry))) (first (suc (n .0) * darts) (now (table .entry))) ++ drop (suc (n .0) * darts) (now (table .entry)) ⌝ }
+    ensures verdict { λ r. ⌜ verdictOf r ≡ checkLent (ofParts (n .0) darts (h .0) (first (suc (n .0) * darts) (now (rows .entry))) (first darts (now (lambda .entry))) (first darts (now (delta .entry)))) (first (suc (n .0) * darts) (now (table .entry))) ⌝ }
+    ensures table_left { λ _. ⌜ now (table .exit) ≡ checkLeaves (ofParts (n .0) darts (h .0) (first (suc (n .0) * darts) (now (rows .entry))) (first darts (now (lambda .entry))) (first darts (now (delta .entry)))) (first (suc (n .0) * darts) (now (table .entry))) ++ drop (suc (n .0) * darts) (now (table .entry)) ⌝ }
 {
     let width = darts as usize;
     let size = answers::entries(n, darts);
     checking::check(
-        n,
-        darts,
-        h,
+        Sizes { n, h, darts },
         &rows[..size],
         &lambda[..width],
         &delta[..width],

@@ -10,7 +10,7 @@ use borrow.Author.Tests.{le-leb}
 use Rattle.maps.specs.Verdict.{accepted, _then_}
 use Rattle.maps.specs.Sizes.{number4}
 use Rattle.maps.specs.Table.{entry, each}
-use Rattle.maps.specs.Folded.{levelTable}
+use Rattle.maps.specs.Folded.{levelTable, ofParts}
 use Rattle.maps.specs.CheckPyramid.{leftBehind, checkLent, checkLeaves}
 use Rattle.maps.specs.Record.{recordDimension, recordHeight, recordDarts, wide, takeLent, takeRows, takeLambda, takeDelta, takeTable}
 use Rattle.maps.specs.Write.{written, writeLent, writeLength, writeLeaves}
@@ -26,16 +26,16 @@ use Rattle.taking.proofs.Joined.{rows-front, lambda-front, delta-front, taken-b
 use Rattle.writing.specs.Answers.{writing}
 
 -- a pyramid is accepted with any table of its length
-check-elsewhere : (n N h : ℕ) (rows lambda delta table other : List ℕ) → checkLent n N h rows lambda delta table ≡ accepted → length other ≡ suc n * N → checkLent n N h rows lambda delta other ≡ accepted
+check-elsewhere : (n N h : ℕ) (rows lambda delta table other : List ℕ) → checkLent (ofParts n N h rows lambda delta) table ≡ accepted → length other ≡ suc n * N → checkLent (ofParts n N h rows lambda delta) other ≡ accepted
 check-elsewhere n N h rows lambda delta table other e long =
-    let p = check-accepts n N h rows lambda delta table e in
-    accepted-check n N h rows lambda delta other (record { dimension = p .dimension; darts = p .darts; height = p .height; rows-length = p .rows-length; lambda-length = p .lambda-length; delta-length = p .delta-length; table-length = long; pyramid = p .pyramid })
+    let p = check-accepts (ofParts n N h rows lambda delta) table e in
+    accepted-check (ofParts n N h rows lambda delta) other (record { dimension = p .dimension; darts = p .darts; height = p .height; rows-length = p .rows-length; lambda-length = p .lambda-length; delta-length = p .delta-length; table-length = long; pyramid = p .pyramid })
 
 -- a pyramid that is written
-module _ (n N h : ℕ) (rows lambda delta table bytes : List ℕ) (e : writeLent n N h rows lambda delta table bytes ≡ accepted) where
+module _ (n N h : ℕ) (rows lambda delta table bytes : List ℕ) (e : writeLent (ofParts n N h rows lambda delta) table bytes ≡ accepted) where
   -- the first bytes of the buffer, as many as the job answers
   abbrev pub record-left : List ℕ
-  record-left = take (writeLength n N h rows lambda delta table bytes) (writeLeaves n N h rows lambda delta table bytes)
+  record-left = take (writeLength (ofParts n N h rows lambda delta) table bytes) (writeLeaves (ofParts n N h rows lambda delta) table bytes)
 
   record-is : written n h N rows lambda delta ≡ record-left
   unfolding writeLength writeLeaves
@@ -55,12 +55,12 @@ module _ (n N h : ℕ) (rows lambda delta table bytes : List ℕ) (e : writeLent
     unfolding writeLent takeLent takeRows takeLambda takeDelta takeTable checkLeaves leftBehind
     written-taken =
         let W = written n h N rows lambda delta in
-        let check : checkLent n N h rows lambda delta table ≡ accepted = then-accepted (checkLent n N h rows lambda delta table) (number4 (leb (length W) (length bytes))) e .0 in
-        let p = check-accepts n N h rows lambda delta table check in
+        let check : checkLent (ofParts n N h rows lambda delta) table ≡ accepted = then-accepted (checkLent (ofParts n N h rows lambda delta) table) (number4 (leb (length W) (length bytes))) e .0 in
+        let p = check-accepts (ofParts n N h rows lambda delta) table check in
         let s : Sized n N h = record { one-dimension = p .dimension .0; dimension = p .dimension .1; one-dart = p .darts .0; darts = p .darts .1; height = p .height } in
         let b = round-trip n h N rows lambda delta s (p .rows-length) (p .lambda-length) (p .delta-length) wide lentRows lentLambda lentDelta lentTable rows-lent lambda-lent delta-lent table-lent in
         let front = take (suc n * N) lentTable in
-        let again : checkLent n N h rows lambda delta front ≡ accepted = check-elsewhere n N h rows lambda delta table front check (length-take-le (suc n * N) lentTable table-lent) in
+        let again : checkLent (ofParts n N h rows lambda delta) front ≡ accepted = check-elsewhere n N h rows lambda delta table front check (length-take-le (suc n * N) lentTable table-lent) in
         let answered : taken W wide lentRows lentLambda lentDelta lentTable ≡ saying accepted n h N = rw (b .verdict, b .rows-held, b .lambda-held, b .delta-held, b .dimension, b .height, b .darts, again) in
         let rows-are : takeRows W wide lentRows lentLambda lentDelta lentTable ≡ rows ++ drop (suc n * N) lentRows = rw (b .verdict, b .rows-held, b .dimension, b .darts) in
         let lambda-are : takeLambda W wide lentRows lentLambda lentDelta lentTable ≡ lambda ++ drop N lentLambda = rw (b .verdict, b .lambda-held, b .darts) in
@@ -83,7 +83,7 @@ module _ (bytes rows lambda delta table : List ℕ) (small : Below 256 bytes) (e
   -- written with a table of its length into a buffer that is long enough: the same bytes
   pub taken-written : (other buffer : List ℕ) → length other ≡ suc (recordDimension bytes) * recordDarts bytes → length bytes ≤ length buffer
       → (writing (recordDimension bytes) (recordDarts bytes) (recordHeight bytes) takenRows takenLambda takenDelta other buffer ≡ record { verdict = accepted; bytes = length bytes })
-      × (writeLeaves (recordDimension bytes) (recordDarts bytes) (recordHeight bytes) takenRows takenLambda takenDelta other buffer ≡ bytes ++ drop (length bytes) buffer)
+      × (writeLeaves (ofParts (recordDimension bytes) (recordDarts bytes) (recordHeight bytes) takenRows takenLambda takenDelta) other buffer ≡ bytes ++ drop (length bytes) buffer)
   unfolding writeLent writeLength writeLeaves number4
   taken-written other buffer long room =
       let p = taken-both bytes wide rows lambda delta table e in

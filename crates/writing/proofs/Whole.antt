@@ -13,6 +13,7 @@ use Rattle.maps.specs.CheckPyramid.{checkLent}
 use Rattle.maps.specs.Accepted.{Accepted}
 use Rattle.maps.specs.Write.{written, writeLent, writeLength, writeLeaves}
 use Rattle.laws.proofs.Sizes.{Sized}
+use Rattle.maps.specs.Folded.{ofParts}
 use Rattle.facts.proofs.ExactJobs.{check-accepts}
 use Rattle.answers.specs.Numbers.{refusalOf}
 use Rattle.answers.specs.declared.Refusal.{Refusal}
@@ -28,27 +29,27 @@ module _ (n N h : ℕ) (rows lambda delta table bytes : List ℕ) where
   W = written n h N rows lambda delta
 
   abbrev verdict : Verdict
-  verdict = writeLent n N h rows lambda delta table bytes
+  verdict = writeLent (ofParts n N h rows lambda delta) table bytes
 
-  tests : verdict ≡ (checkLent n N h rows lambda delta table then number4 (leb (length W) (length bytes)))
+  tests : verdict ≡ (checkLent (ofParts n N h rows lambda delta) table then number4 (leb (length W) (length bytes)))
   unfolding writeLent
   tests = refl
 
   -- the answer, and what is left in the buffer
   abbrev Answers : Outcome → List ℕ → Type 0
-  Answers o after = (o ≡ writing n N h rows lambda delta table bytes) × (after ≡ writeLeaves n N h rows lambda delta table bytes)
+  Answers o after = (o ≡ writing n N h rows lambda delta table bytes) × (after ≡ writeLeaves (ofParts n N h rows lambda delta) table bytes)
 
   refused : (r : Refusal) → refusalOf r ≡ verdict → Answers (record { verdict = refusalOf r; bytes = 0 }) bytes
   unfolding writeLength writeLeaves
   refused r e = (ap₂ (λ (v : Verdict) (m : ℕ). record { verdict = v; bytes = m }) e (refusal-keeps r verdict (length W) 0 e), refusal-keeps r verdict _ bytes e)
 
   -- what the check refuses
-  pub check-refused : (r : Refusal) → refusalOf r ≡ checkLent n N h rows lambda delta table → Answers (record { verdict = refusalOf r; bytes = 0 }) bytes
+  pub check-refused : (r : Refusal) → refusalOf r ≡ checkLent (ofParts n N h rows lambda delta) table → Answers (record { verdict = refusalOf r; bytes = 0 }) bytes
   check-refused r e = refused r (refused-first verdict _ _ tests r e)
 
-  module _ (e : accepted ≡ checkLent n N h rows lambda delta table) where
-    pub accepts : Accepted n N h rows lambda delta table
-    accepts = check-accepts n N h rows lambda delta table (sym e)
+  module _ (e : accepted ≡ checkLent (ofParts n N h rows lambda delta) table) where
+    pub accepts : Accepted (ofParts n N h rows lambda delta) table
+    accepts = check-accepts (ofParts n N h rows lambda delta) table (sym e)
 
     pub record-size : length (written n h N rows lambda delta) ≡ recordSize n N
     record-size =

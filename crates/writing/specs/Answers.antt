@@ -3,6 +3,7 @@ use mathlib.Core.List.{List}
 use Prim.Native.Nat.{ℕ}
 use Rattle.maps.specs.Verdict.{Verdict, accepted}
 use Rattle.maps.specs.Write.{writeLent, writeLength}
+use Rattle.maps.specs.Folded.{ofParts}
 use Rattle.answers.specs.Numbers.{refusalOf}
 use Rattle.writing.specs.declared.Written.{Written}
 use Rattle.writing.specs.declared.Written.the-variants.{Bytes, Refused}
@@ -19,4 +20,4 @@ writtenOf (Refused r) = record { verdict = refusalOf r; bytes = 0 }
 
 -- what writing a record answers
 abbrev pub writing : ℕ → ℕ → ℕ → List ℕ → List ℕ → List ℕ → List ℕ → List ℕ → Outcome
-writing n N h rows lambda delta table bytes = record { verdict = writeLent n N h rows lambda delta table bytes; bytes = writeLength n N h rows lambda delta table bytes }
+writing n N h rows lambda delta table bytes = record { verdict = writeLent (ofParts n N h rows lambda delta) table bytes; bytes = writeLength (ofParts n N h rows lambda delta) table bytes }

@@ -5,6 +5,7 @@ use answers::Check;
 use answers::Dim;
 use answers::Level;
 use answers::Refusal;
+use answers::Sizes;
 use putting::put_header;
 use putting::put_marks;
 use putting::put_rows;
@@ -13,6 +14,7 @@ ghost use mathlib.Core.Path.{_≡_};
 ghost use Prim.Native.Nat.{suc, _+_, _*_, _≤_};
 ghost use lib.ListN.{length};
 ghost use Rattle.maps.specs.Write.{written, writeTable, writeLeaves};
+ghost use Rattle.answers.specs.Pyramid.{given};
 ghost use Rattle.writing.specs.Answers.{writtenOf, writing};
 ghost use Rattle.writing.specs.Put.{recordSize, Put};
 
@@ -63,10 +65,10 @@ pub fn write(
     bytes: &mut [u8],
 ) -> Written
     ensures answer { λ r. ⌜ writtenOf r ≡ writing (n .0) darts (h .0) (now (rows .entry)) (now (lambda .entry)) (now (delta .entry)) (now (table .entry)) (now (bytes .entry)) ⌝ }
-    ensures table_left { λ _. ⌜ now (table .exit) ≡ writeTable (n .0) darts (h .0) (now (rows .entry)) (now (lambda .entry)) (now (delta .entry)) (now (table .entry)) (now (bytes .entry)) ⌝ }
-    ensures bytes_left { λ _. ⌜ now (bytes .exit) ≡ writeLeaves (n .0) darts (h .0) (now (rows .entry)) (now (lambda .entry)) (now (delta .entry)) (now (table .entry)) (now (bytes .entry)) ⌝ }
+    ensures table_left { λ _. ⌜ now (table .exit) ≡ writeTable (given (n .0) darts (h .0) (rows .entry) (lambda .entry) (delta .entry)) (now (table .entry)) (now (bytes .entry)) ⌝ }
+    ensures bytes_left { λ _. ⌜ now (bytes .exit) ≡ writeLeaves (given (n .0) darts (h .0) (rows .entry) (lambda .entry) (delta .entry)) (now (table .entry)) (now (bytes .entry)) ⌝ }
 {
-    if let Check::Refused(r) = checking::check(n, darts, h, rows, lambda, delta, table) {
+    if let Check::Refused(r) = checking::check(Sizes { n, h, darts }, rows, lambda, delta, table) {
         return Written::Refused(r);
     }
     let size = record_size(n, darts);

@@ -2,7 +2,9 @@
 use answers::Check;
 use answers::Dim;
 use answers::Level;
+use answers::Question;
 use answers::Refusal;
+use answers::Sizes;
 use counting::census_into;
 ghost use mathlib.Core.Path.{_≡_};
 ghost use Prim.Native.Nat.{_*_, _≤_};
@@ -26,6 +28,7 @@ ghost use Rattle.maps.specs.Partner.{importLent, ImportLeaves, exportLent, Expo
 ghost use Rattle.maps.specs.Join.{joinLent, joinHeight, joinLambda, joinLeaves};
 ghost use Rattle.maps.specs.Rebase.{rebaseRows, rebaseLambda, rebaseDelta, rebaseOld, rebaseTable};
 ghost use Rattle.answers.specs.Numbers.{refusalOf, verdictOf};
+ghost use Rattle.answers.specs.Pyramid.{given};
 ghost use Rattle.checking.specs.Answers.{addedOf, heightOf};
 ghost use Rattle.questions.specs.Answers.{valueOf};
 ghost use Rattle.reading.specs.Answers.{valueOf as linkOf, standsSince, checkOf, totalOf, latestOf};
@@ -423,12 +426,19 @@ fn based_as(darts: u16, h: u8, answer: rebasing::Rebased) -> ZgBase
     }
 }
 
-// The version of this interface: 6.2.0.
+// The version of this interface.
+const MAJOR: u32 = 6;
+
+const MINOR: u32 = 2;
+
+const PATCH: u32 = 0;
+
+// Its three numbers as one.
 #[no_mangle]
 pub extern "C" fn zg_version() -> u32
     ensures { λ r. ⌜ r ≡ versionFor 6 2 0 ⌝ }
 {
-    393728
+    MAJOR * 65536 + MINOR * 256 + PATCH
 }
 
 // Checks a base.
@@ -450,10 +460,15 @@ pub extern "C" fn zg_check(
     delta: &[u8],
     table: &mut [u16],
 ) -> ZgRefusal
-    ensures answer { λ r. ⌜ r ≡ refusalFor (checkLent n darts h (now (rows .entry)) (now (lambda .entry)) (now (delta .entry)) (now (table .entry))) ⌝ }
-    ensures table_left { λ _. ⌜ now (table .exit) ≡ checkLeaves n darts h (now (rows .entry)) (now (lambda .entry)) (now (delta .entry)) (now (table .entry)) ⌝ }
+    ensures answer { λ r. ⌜ r ≡ refusalFor (checkLent (given n darts h (rows .entry) (lambda .entry) (delta .entry)) (now (table .entry))) ⌝ }
+    ensures table_left { λ _. ⌜ now (table .exit) ≡ checkLeaves (given n darts h (rows .entry) (lambda .entry) (delta .entry)) (now (table .entry)) ⌝ }
 {
-    checked(checking::check(Dim(n), darts, Level(h), rows, lambda, delta, table))
+    let sizes = Sizes {
+        n: Dim(n),
+        h: Level(h),
+        darts,
+    };
+    checked(checking::check(sizes, rows, lambda, delta, table))
 }
 
 // Adds a level on top.
@@ -468,15 +483,17 @@ pub extern "C" fn zg_add(
     marks: &[u8],
     table: &mut [u16],
 ) -> ZgHeight
-    ensures answer { λ r. ⌜ r ≡ heightFor (addLent n darts h (now (rows .entry)) (now (lambda .entry)) (now (delta .entry)) (now (marks .entry)) (now (table .entry))) (addHeight n darts h (now (rows .entry)) (now (lambda .entry)) (now (delta .entry)) (now (marks .entry)) (now (table .entry))) ⌝ }
-    ensures lambda_left { λ _. ⌜ now (lambda .exit) ≡ addLambda n darts h (now (rows .entry)) (now (lambda .entry)) (now (delta .entry)) (now (marks .entry)) (now (table .entry)) ⌝ }
-    ensures delta_left { λ _. ⌜ now (delta .exit) ≡ addDelta n darts h (now (rows .entry)) (now (lambda .entry)) (now (delta .entry)) (now (marks .entry)) (now (table .entry)) ⌝ }
-    ensures table_left { λ _. ⌜ now (table .exit) ≡ addLeaves n darts h (now (rows .entry)) (now (lambda .entry)) (now (delta .entry)) (now (marks .entry)) (now (table .entry)) ⌝ }
+    ensures answer { λ r. ⌜ r ≡ heightFor (addLent (given n darts h (rows .entry) (lambda .entry) (delta .entry)) (now (marks .entry)) (now (table .entry))) (addHeight (given n darts h (rows .entry) (lambda .entry) (delta .entry)) (now (marks .entry)) (now (table .entry))) ⌝ }
+    ensures lambda_left { λ _. ⌜ now (lambda .exit) ≡ addLambda (given n darts h (rows .entry) (lambda .entry) (delta .entry)) (now (marks .entry)) (now (table .entry)) ⌝ }
+    ensures delta_left { λ _. ⌜ now (delta .exit) ≡ addDelta (given n darts h (rows .entry) (lambda .entry) (delta .entry)) (now (marks .entry)) (now (table .entry)) ⌝ }
+    ensures table_left { λ _. ⌜ now (table .exit) ≡ addLeaves (given n darts h (rows .entry) (lambda .entry) (delta .entry)) (now (marks .entry)) (now (table .entry)) ⌝ }
 {
-    grown(
-        h,
-        checking::add(Dim(n), darts, Level(h), rows, lambda, delta, marks, table),
-    )
+    let sizes = Sizes {
+        n: Dim(n),
+        h: Level(h),
+        darts,
+    };
+    grown(h, checking::add(sizes, rows, lambda, delta, marks, table))
 }
 
 // Reads the mark row of a level back.
@@ -493,7 +510,12 @@ pub extern "C" fn zg_marks_of(
     ensures answer { λ r. ⌜ r ≡ refusalFor (marksLent n darts h (now (lambda .entry)) (now (delta .entry)) level (now (marks .entry))) ⌝ }
     ensures marks_left { λ _. ⌜ now (marks .exit) ≡ marksLeaves n darts h (now (lambda .entry)) (now (delta .entry)) level (now (marks .entry)) ⌝ }
 {
-    checked(rows::marks_of(Dim(n), darts, Level(h), lambda, delta, Level(level), marks))
+    let sizes = Sizes {
+        n: Dim(n),
+        h: Level(h),
+        darts,
+    };
+    checked(rows::marks_of(sizes, lambda, delta, Level(level), marks))
 }
 
 // Reads one neighbour on a level by the direct walk, and since which level the link stands.
@@ -509,18 +531,23 @@ pub extern "C" fn zg_read(
     involution: u8,
     dart: u16,
 ) -> ZgLink
-    ensures { λ r. ⌜ r ≡ linkFor (readLent n darts h (now (rows .entry)) (now (lambda .entry)) (now (delta .entry)) level involution dart) (readSince n darts h (now (rows .entry)) (now (lambda .entry)) (now (delta .entry)) level involution dart) ⌝ }
+    ensures { λ r. ⌜ r ≡ linkFor (readLent (given n darts h (rows .entry) (lambda .entry) (delta .entry)) level involution dart) (readSince (given n darts h (rows .entry) (lambda .entry) (delta .entry)) level involution dart) ⌝ }
 {
-    linked(reading::read(
-        Dim(n),
+    let sizes = Sizes {
+        n: Dim(n),
+        h: Level(h),
         darts,
-        Level(h),
+    };
+    linked(reading::read(
+        sizes,
         rows,
         lambda,
         delta,
-        Level(level),
-        Dim(involution),
-        dart,
+        Question {
+            level: Level(level),
+            involution: Dim(involution),
+            dart,
+        },
     ))
 }
 
@@ -537,18 +564,23 @@ pub extern "C" fn zg_read_by_levels(
     involution: u8,
     dart: u16,
 ) -> ZgReading
-    ensures { λ r. ⌜ r ≡ readingFor (readLentByLevels n darts h (now (rows .entry)) (now (lambda .entry)) (now (delta .entry)) level involution dart) ⌝ }
+    ensures { λ r. ⌜ r ≡ readingFor (readLentByLevels (given n darts h (rows .entry) (lambda .entry) (delta .entry)) level involution dart) ⌝ }
 {
-    read_as(levelwise::read_by_levels(
-        Dim(n),
+    let sizes = Sizes {
+        n: Dim(n),
+        h: Level(h),
         darts,
-        Level(h),
+    };
+    read_as(levelwise::read_by_levels(
+        sizes,
         rows,
         lambda,
         delta,
-        Level(level),
-        Dim(involution),
-        dart,
+        Question {
+            level: Level(level),
+            involution: Dim(involution),
+            dart,
+        },
     ))
 }
 
@@ -564,19 +596,15 @@ pub extern "C" fn zg_unfold(
     level: u8,
     table: &mut [u16],
 ) -> ZgUnfolding
-    ensures answer { λ r. ⌜ r ≡ unfoldingFor (unfoldLent n darts h (now (rows .entry)) (now (lambda .entry)) (now (delta .entry)) level (now (table .entry))) (unfoldTotal n darts h (now (rows .entry)) (now (lambda .entry)) (now (delta .entry)) level (now (table .entry))) (unfoldSince n darts h (now (rows .entry)) (now (lambda .entry)) (now (delta .entry)) level (now (table .entry))) ⌝ }
-    ensures table_left { λ _. ⌜ now (table .exit) ≡ unfoldLeaves n darts h (now (rows .entry)) (now (lambda .entry)) (now (delta .entry)) level (now (table .entry)) ⌝ }
+    ensures answer { λ r. ⌜ r ≡ unfoldingFor (unfoldLent (given n darts h (rows .entry) (lambda .entry) (delta .entry)) level (now (table .entry))) (unfoldTotal (given n darts h (rows .entry) (lambda .entry) (delta .entry)) level (now (table .entry))) (unfoldSince (given n darts h (rows .entry) (lambda .entry) (delta .entry)) level (now (table .entry))) ⌝ }
+    ensures table_left { λ _. ⌜ now (table .exit) ≡ unfoldLeaves (given n darts h (rows .entry) (lambda .entry) (delta .entry)) level (now (table .entry)) ⌝ }
 {
-    totalled(reading::unfold(
-        Dim(n),
+    let sizes = Sizes {
+        n: Dim(n),
+        h: Level(h),
         darts,
-        Level(h),
-        rows,
-        lambda,
-        delta,
-        Level(level),
-        table,
-    ))
+    };
+    totalled(reading::unfold(sizes, rows, lambda, delta, Level(level), table))
 }
 
 // Says where a row of a level lies.
@@ -592,16 +620,13 @@ pub extern "C" fn zg_row(
 ) -> ZgPart
     ensures { λ r. ⌜ r ≡ partFor (rowLent n darts h (now (base .entry)) (now (unfolded .entry)) level involution) darts level involution ⌝ }
 {
+    let sizes = Sizes {
+        n: Dim(n),
+        h: Level(h),
+        darts,
+    };
     part_as(
-        rows::row_refusal(
-            Dim(n),
-            darts,
-            Level(h),
-            base,
-            unfolded,
-            Level(level),
-            Dim(involution),
-        ),
+        rows::row_refusal(sizes, base, unfolded, Level(level), Dim(involution)),
         darts,
         level,
         involution,
@@ -669,8 +694,8 @@ pub extern "C" fn zg_write(
     bytes: &mut [u8],
 ) -> ZgWritten
     ensures answer { λ r. ⌜ r ≡ writtenFor (writing n darts h (now (rows .entry)) (now (lambda .entry)) (now (delta .entry)) (now (table .entry)) (now (bytes .entry))) ⌝ }
-    ensures table_left { λ _. ⌜ now (table .exit) ≡ writeTable n darts h (now (rows .entry)) (now (lambda .entry)) (now (delta .entry)) (now (table .entry)) (now (bytes .entry)) ⌝ }
-    ensures bytes_left { λ _. ⌜ now (bytes .exit) ≡ writeLeaves n darts h (now (rows .entry)) (now (lambda .entry)) (now (delta .entry)) (now (table .entry)) (now (bytes .entry)) ⌝ }
+    ensures table_left { λ _. ⌜ now (table .exit) ≡ writeTable (given n darts h (rows .entry) (lambda .entry) (delta .entry)) (now (table .entry)) (now (bytes .entry)) ⌝ }
+    ensures bytes_left { λ _. ⌜ now (bytes .exit) ≡ writeLeaves (given n darts h (rows .entry) (lambda .entry) (delta .entry)) (now (table .entry)) (now (bytes .entry)) ⌝ }
 {
     written_as(writing::write(Dim(n), darts, Level(h), rows, lambda, delta, table, bytes))
 }
@@ -687,19 +712,15 @@ pub extern "C" fn zg_decimation(
     table: &mut [u16],
     level: u8,
 ) -> ZgFactor
-    ensures answer { λ r. ⌜ r ≡ factorFor (decimating n darts h (now (rows .entry)) (now (lambda .entry)) (now (delta .entry)) (now (table .entry)) level) ⌝ }
-    ensures table_left { λ _. ⌜ now (table .exit) ≡ decimationTable n darts h (now (rows .entry)) (now (lambda .entry)) (now (delta .entry)) (now (table .entry)) level ⌝ }
+    ensures answer { λ r. ⌜ r ≡ factorFor (decimating (given n darts h (rows .entry) (lambda .entry) (delta .entry)) (now (table .entry)) level) ⌝ }
+    ensures table_left { λ _. ⌜ now (table .exit) ≡ decimationTable (given n darts h (rows .entry) (lambda .entry) (delta .entry)) (now (table .entry)) level ⌝ }
 {
-    factor_as(shrinking::decimation(
-        Dim(n),
+    let sizes = Sizes {
+        n: Dim(n),
+        h: Level(h),
         darts,
-        Level(h),
-        rows,
-        lambda,
-        delta,
-        table,
-        Level(level),
-    ))
+    };
+    factor_as(shrinking::decimation(sizes, rows, lambda, delta, table, Level(level)))
 }
 
 // A census of an accepted pyramid, into 33 rows of five counts and 33 sums; the table is left as the check leaves it.
@@ -715,9 +736,9 @@ pub extern "C" fn zg_census(
     cells: &mut [u16],
     sums: &mut [i32],
 ) -> ZgRefusal
-    ensures answer { λ r. ⌜ r ≡ refusalFor (censusLent n darts h (now (rows .entry)) (now (lambda .entry)) (now (delta .entry)) (now (table .entry)) (now (cells .entry)) (now (sums .entry))) ⌝ }
-    ensures table_left { λ _. ⌜ now (table .exit) ≡ censusTable n darts h (now (rows .entry)) (now (lambda .entry)) (now (delta .entry)) (now (table .entry)) (now (cells .entry)) (now (sums .entry)) ⌝ }
-    ensures counts_left { λ _. ⌜ CensusPutLeaves n darts h (now (rows .entry)) (now (lambda .entry)) (now (delta .entry)) (censusLent n darts h (now (rows .entry)) (now (lambda .entry)) (now (delta .entry)) (now (table .entry)) (now (cells .entry)) (now (sums .entry))) (now (cells .entry)) (now (sums .entry)) (now (cells .exit)) (now (sums .exit)) ⌝ }
+    ensures answer { λ r. ⌜ r ≡ refusalFor (censusLent (given n darts h (rows .entry) (lambda .entry) (delta .entry)) (now (table .entry)) (now (cells .entry)) (now (sums .entry))) ⌝ }
+    ensures table_left { λ _. ⌜ now (table .exit) ≡ censusTable (given n darts h (rows .entry) (lambda .entry) (delta .entry)) (now (table .entry)) (now (cells .entry)) (now (sums .entry)) ⌝ }
+    ensures counts_left { λ _. ⌜ CensusPutLeaves (given n darts h (rows .entry) (lambda .entry) (delta .entry)) (censusLent (given n darts h (rows .entry) (lambda .entry) (delta .entry)) (now (table .entry)) (now (cells .entry)) (now (sums .entry))) (now (cells .entry)) (now (sums .entry)) (now (cells .exit)) (now (sums .exit)) ⌝ }
 {
     checked(census_into(
         Dim(n),
@@ -767,9 +788,9 @@ pub extern "C" fn zg_join(
     table: &mut [u16],
     level: u8,
 ) -> ZgHeight
-    ensures answer { λ r. ⌜ r ≡ heightFor (joinLent n darts h (now (rows .entry)) (now (lambda .entry)) (now (delta .entry)) (now (table .entry)) level) (joinHeight n darts h (now (rows .entry)) (now (lambda .entry)) (now (delta .entry)) (now (table .entry)) level) ⌝ }
-    ensures lambda_left { λ _. ⌜ now (lambda .exit) ≡ joinLambda n darts h (now (rows .entry)) (now (lambda .entry)) (now (delta .entry)) (now (table .entry)) level ⌝ }
-    ensures table_left { λ _. ⌜ now (table .exit) ≡ joinLeaves n darts h (now (rows .entry)) (now (lambda .entry)) (now (delta .entry)) (now (table .entry)) level ⌝ }
+    ensures answer { λ r. ⌜ r ≡ heightFor (joinLent (given n darts h (rows .entry) (lambda .entry) (delta .entry)) (now (table .entry)) level) (joinHeight (given n darts h (rows .entry) (lambda .entry) (delta .entry)) (now (table .entry)) level) ⌝ }
+    ensures lambda_left { λ _. ⌜ now (lambda .exit) ≡ joinLambda (given n darts h (rows .entry) (lambda .entry) (delta .entry)) (now (table .entry)) level ⌝ }
+    ensures table_left { λ _. ⌜ now (table .exit) ≡ joinLeaves (given n darts h (rows .entry) (lambda .entry) (delta .entry)) (now (table .entry)) level ⌝ }
 {
     let answer = joining::join(
         Dim(n),
@@ -798,11 +819,11 @@ pub extern "C" fn zg_rebase(
     old: &mut [u16],
 ) -> ZgBase
     ensures answer { λ r. ⌜ r ≡ baseFor (rebasing n darts h (now (rows .entry)) (now (lambda .entry)) (now (delta .entry)) (now (table .entry)) level (now (old .entry))) ⌝ }
-    ensures rows_left { λ _. ⌜ now (rows .exit) ≡ rebaseRows n darts h (now (rows .entry)) (now (lambda .entry)) (now (delta .entry)) (now (table .entry)) level (now (old .entry)) ⌝ }
-    ensures lambda_left { λ _. ⌜ now (lambda .exit) ≡ rebaseLambda n darts h (now (rows .entry)) (now (lambda .entry)) (now (delta .entry)) (now (table .entry)) level (now (old .entry)) ⌝ }
-    ensures delta_left { λ _. ⌜ now (delta .exit) ≡ rebaseDelta n darts h (now (rows .entry)) (now (lambda .entry)) (now (delta .entry)) (now (table .entry)) level (now (old .entry)) ⌝ }
-    ensures table_left { λ _. ⌜ now (table .exit) ≡ rebaseTable n darts h (now (rows .entry)) (now (lambda .entry)) (now (delta .entry)) (now (table .entry)) level (now (old .entry)) ⌝ }
-    ensures old_left { λ _. ⌜ now (old .exit) ≡ rebaseOld n darts h (now (rows .entry)) (now (lambda .entry)) (now (delta .entry)) (now (table .entry)) level (now (old .entry)) ⌝ }
+    ensures rows_left { λ _. ⌜ now (rows .exit) ≡ rebaseRows (given n darts h (rows .entry) (lambda .entry) (delta .entry)) (now (table .entry)) level (now (old .entry)) ⌝ }
+    ensures lambda_left { λ _. ⌜ now (lambda .exit) ≡ rebaseLambda (given n darts h (rows .entry) (lambda .entry) (delta .entry)) (now (table .entry)) level (now (old .entry)) ⌝ }
+    ensures delta_left { λ _. ⌜ now (delta .exit) ≡ rebaseDelta (given n darts h (rows .entry) (lambda .entry) (delta .entry)) (now (table .entry)) level (now (old .entry)) ⌝ }
+    ensures table_left { λ _. ⌜ now (table .exit) ≡ rebaseTable (given n darts h (rows .entry) (lambda .entry) (delta .entry)) (now (table .entry)) level (now (old .entry)) ⌝ }
+    ensures old_left { λ _. ⌜ now (old .exit) ≡ rebaseOld (given n darts h (rows .entry) (lambda .entry) (delta .entry)) (now (table .entry)) level (now (old .entry)) ⌝ }
 {
     based_as(
         darts,

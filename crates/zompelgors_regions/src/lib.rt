@@ -1,9 +1,12 @@
 // The C interface of the second library: region names. Assumes nothing of a caller beyond pointers that are good for the lengths given.
+use answers::AtLevel;
 use answers::Check;
 use answers::Dim;
 use answers::Level;
+use answers::Sizes;
 ghost use mathlib.Core.Path.{_≡_};
 ghost use Rattle.maps.specs.Regions.{regionsLent, regionsTable, RegionsLeave};
+ghost use Rattle.answers.specs.Pyramid.{given};
 ghost use Rattle.answers.specs.Numbers.{verdictOf};
 ghost use Rattle.zompelgors_regions.specs.Flat.{refusalFor};
 
@@ -52,19 +55,18 @@ pub extern "C" fn zg_regions(
     level: u8,
     names: &mut [u16],
 ) -> ZgRefusal
-    ensures answer { λ r. ⌜ r ≡ refusalFor (regionsLent n darts h (now (rows .entry)) (now (lambda .entry)) (now (delta .entry)) (now (table .entry)) level (now (names .entry))) ⌝ }
-    ensures table_left { λ _. ⌜ now (table .exit) ≡ regionsTable n darts h (now (rows .entry)) (now (lambda .entry)) (now (delta .entry)) (now (table .entry)) level (now (names .entry)) ⌝ }
-    ensures names_left { λ _. ⌜ RegionsLeave n darts h (now (rows .entry)) (now (lambda .entry)) (now (delta .entry)) (now (table .entry)) level (now (names .entry)) (regionsLent n darts h (now (rows .entry)) (now (lambda .entry)) (now (delta .entry)) (now (table .entry)) level (now (names .entry))) (now (names .exit)) ⌝ }
+    ensures answer { λ r. ⌜ r ≡ refusalFor (regionsLent (given n darts h (rows .entry) (lambda .entry) (delta .entry)) (now (table .entry)) level (now (names .entry))) ⌝ }
+    ensures table_left { λ _. ⌜ now (table .exit) ≡ regionsTable (given n darts h (rows .entry) (lambda .entry) (delta .entry)) (now (table .entry)) level (now (names .entry)) ⌝ }
+    ensures names_left { λ _. ⌜ RegionsLeave (given n darts h (rows .entry) (lambda .entry) (delta .entry)) level (now (names .entry)) (regionsLent (given n darts h (rows .entry) (lambda .entry) (delta .entry)) (now (table .entry)) level (now (names .entry))) (now (names .exit)) ⌝ }
 {
-    flat(regions::name_regions(
-        Dim(n),
+    let sizes = Sizes {
+        n: Dim(n),
+        h: Level(h),
         darts,
-        Level(h),
-        rows,
-        lambda,
-        delta,
-        table,
-        Level(level),
-        names,
-    ))
+    };
+    let at = AtLevel {
+        sizes,
+        level: Level(level),
+    };
+    flat(regions::name_regions(at, rows, lambda, delta, table, names))
 }

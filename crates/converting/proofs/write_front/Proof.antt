@@ -7,6 +7,7 @@ use lib.Seq.{length-take-le}
 use denote.Ref.{now}
 use borrow.Author.Needs.{needs}
 use Rattle.maps.specs.Write.{writeTable, writeLeaves}
+use Rattle.maps.specs.Folded.{ofParts}
 use Rattle.writing.specs.Answers.{writing}
 use Rattle.converting.proofs.write_front.Statement.{statement}
 use Rattle.converting.proofs.write_front.Tie as tie
@@ -45,8 +46,8 @@ returns c =
     let same = z .entries .ensures in (
       e .0 ∙ ap (λ (m : ℕ). writing (a .n .0) (a .darts) (a .h .0) (take m R) L D (take m T) B) same,
       (
-        ap (λ (x : List ℕ). x ++ drop (z .entries .result) T) (e .1 .0) ∙ ap (λ (m : ℕ). writeTable (a .n .0) (a .darts) (a .h .0) (take m R) L D (take m T) B ++ drop m T) same,
-        e .1 .1 ∙ ap (λ (m : ℕ). writeLeaves (a .n .0) (a .darts) (a .h .0) (take m R) L D (take m T) B) same,
+        ap (λ (x : List ℕ). x ++ drop (z .entries .result) T) (e .1 .0) ∙ ap (λ (m : ℕ). writeTable (ofParts (a .n .0) (a .darts) (a .h .0) (take m R) L D) (take m T) B ++ drop m T) same,
+        e .1 .1 ∙ ap (λ (m : ℕ). writeLeaves (ofParts (a .n .0) (a .darts) (a .h .0) (take m R) L D) (take m T) B) same,
       ),
     )
 

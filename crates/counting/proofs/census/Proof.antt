@@ -4,6 +4,7 @@ use denote.Ref.{now}
 use borrow.Author.Needs.{needs}
 use Rattle.maps.specs.Verdict.{accepted}
 use Rattle.maps.specs.CheckPyramid.{checkLent}
+use Rattle.answers.specs.Pyramid.{given}
 use Rattle.answers.proofs.Refusals.{told}
 use Rattle.counting.proofs.Whole.{counted-few, census-refused, left-accepted, left-table, census-left}
 use Rattle.counting.proofs.census.Statement.{statement}
@@ -18,7 +19,7 @@ abbrev checked : tie.After-enum-told → tie.After-check
 checked c = c .before .before .before .before
 
 -- it has accepted
-fine : (c : tie.After-enum-told) → let a = start (checked c) .args in accepted ≡ checkLent (a .n .0) (a .darts) (a .h .0) (now (a .rows)) (now (a .lambda)) (now (a .delta)) (now (a .table))
+fine : (c : tie.After-enum-told) → let a = start (checked c) .args in accepted ≡ checkLent (given (a .n .0) (a .darts) (a .h .0) (a .rows) (a .lambda) (a .delta)) (now (a .table))
 fine c = told (checked c .check .ensures .0) (c .enum-told .given .1)
 
 returns : tie.Need-returns

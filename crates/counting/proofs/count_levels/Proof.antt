@@ -6,7 +6,7 @@ use native.Mathlib.Omega.{arith}
 use denote.Ref.{now}
 use borrow.Author.Needs.{needs}
 use Rattle.maps.specs.Table.{entry, each}
-use Rattle.maps.specs.Folded.{levelTable}
+use Rattle.maps.specs.Folded.{levelTable, ofParts}
 use Rattle.maps.specs.Accepted.{Accepted}
 use Rattle.counting.specs.Counts.{Counted}
 use Rattle.counting.proofs.Levels.{table-accepted}
@@ -17,7 +17,7 @@ use Rattle.counting.proofs.count_levels.Tie as tie
 abbrev Inv-loop : tie.InvT-loop
 Inv-loop n darts h rows lambda delta table₀ counts₀ l₀ l-end table counts l =
     (l ≤ l-end)
-    × Accepted (n .0) darts (h .0) rows lambda delta table
+    × Accepted (ofParts (n .0) darts (h .0) rows lambda delta) table
     × Counted (n .0) darts (h .0) rows lambda delta counts l
     × (l ≡ h .0 + 1 → table ≡ levelTable (entry darts rows) (n .0) darts (h .0) (each lambda) (each delta) (h .0))
 
@@ -72,7 +72,7 @@ loop-again c =
     let lk : l .l ≤ h = omega arith in
     let is = u .count-climbed .ensures .1 in (
       omega arith,
-      subst (λ (t : List ℕ). Accepted n N h rows lambda delta t) (sym is) (table-accepted n N h rows lambda delta (l .table) p (l .l) lk),
+      subst (λ (t : List ℕ). Accepted (ofParts n N h rows lambda delta) t) (sym is) (table-accepted n N h rows lambda delta (l .table) p (l .l) lk),
       subst (λ (t : List (List ℕ)). Counted n N h rows lambda delta t (l .l + 1)) (sym (c .with-row .ensures)) (counted-row n N h rows lambda delta (l .table) p (l .counts) (l .l) lk (l .inv .2) (u .count-climbed .result) (u .count-climbed .ensures .0)),
       λ e. let top : l .l ≡ h = omega arith in is ∙ ap (λ (k : ℕ). levelTable (entry N rows) n N h (each lambda) (each delta) k) top,
     )

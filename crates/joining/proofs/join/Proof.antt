@@ -10,6 +10,7 @@ use Rattle.maps.specs.Verdict.{accepted}
 use Rattle.maps.specs.Table.{each, listed}
 use Rattle.maps.specs.CheckPyramid.{checkLent}
 use Rattle.maps.specs.Join.{joinΛ}
+use Rattle.answers.specs.Pyramid.{given}
 use Rattle.answers.specs.declared.Refusal.the-variants.{NoLevel}
 use Rattle.answers.proofs.Refusals.{told}
 use Rattle.joining.proofs.Whole.{check-refused, table-long, no-two, checked, kernel-refused, lowered}
@@ -29,7 +30,7 @@ accepted-at c = c .before .before
 abbrev two-at : tie.After-climb → tie.Else1
 two-at c = c .before .before .before
 
-fine : (c : tie.After-enum-told) → let a = start (check-at c) .args in accepted ≡ checkLent (a .n .0) (a .darts) (a .h .0) (now (a .rows)) (now (a .lambda)) (now (a .delta)) (now (a .table))
+fine : (c : tie.After-enum-told) → let a = start (check-at c) .args in accepted ≡ checkLent (given (a .n .0) (a .darts) (a .h .0) (a .rows) (a .lambda) (a .delta)) (now (a .table))
 fine c = told (check-at c .check .ensures .0) (c .enum-told .given .1)
 
 -- there are two kernels
@@ -66,8 +67,8 @@ returns-3 c =
     let r = c .before .r2 .given in
     kernel-refused _ _ _ _ _ _ (now (a .table)) (a .level .0) (fine e) (two i) (r .0 .0) (told (x .climb .ensures .0) (r .1)) (x .climb .ensures .1)
 
-sub-t27 : tie.Need-sub-t27
-sub-t27 c = let x : tie.After-climb = c .before .before .before .before .before .before .before .before .before in omega (arith, two (two-at x))
+sub-t28 : tie.Need-sub-t28
+sub-t28 c = let x : tie.After-climb = c .before .before .before .before .before .before .before .before .before in omega (arith, two (two-at x))
 
 returns-4 : tie.Need-returns-4
 returns-4 c =
@@ -102,7 +103,7 @@ join-spec =
     returns-3
     (λ c. search needs)
     (λ c κs. search needs)
-    sub-t27
+    sub-t28
     (λ c. search needs)
     (λ c. search needs)
     returns-4)

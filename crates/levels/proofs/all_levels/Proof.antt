@@ -7,10 +7,10 @@ use Rattle.levels.proofs.all_levels.Statement.{statement}
 use Rattle.levels.proofs.all_levels.Tie as tie
 
 abbrev Inv-loop : tie.InvT-loop
-Inv-loop n darts h rows lambda delta table₀ words₀ top l₀ table words l = (l ≤ top) × (length table ≡ length table₀)
+Inv-loop sizes rows lambda delta table₀ words₀ top l₀ table words l = (l ≤ top) × (length table ≡ length table₀)
 
 abbrev μ-loop : tie.MeasureT-loop
-μ-loop n darts h rows lambda delta table₀ words₀ top l₀ table words l = top - l
+μ-loop sizes rows lambda delta table₀ words₀ top l₀ table words l = top - l
 
 pub all-levels-spec : {M : Type 1} → statement M
 all-levels-spec =

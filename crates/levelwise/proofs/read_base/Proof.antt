@@ -1,6 +1,6 @@
 -- `levelwise::read_base` meets its contract. Assumes nothing.
 use native.Mathlib.Omega.{arith}
-use denote.Ref.{now}
+use Rattle.answers.specs.Pyramid.{lent}
 use Rattle.laws.proofs.Tables.{in-table, table-size}
 use Rattle.levelwise.proofs.Readings.{base-long, base-strays, base-marks, base-ends}
 use borrow.Author.Needs.{needs}
@@ -21,7 +21,7 @@ add-if1 : tie.Need-add-if1
 add-if1 c = search needs
 
 returns : tie.Need-returns
-returns c = let a = c .before .before .before .before .before .before .args in base-long (a .sizes) (now (a .rows)) (now (a .lambda)) (now (a .delta)) (a .at) (c .if1 .taken)
+returns c = let a = c .before .before .before .before .before .before .args in base-long (lent (a .sizes) (a .rows) (a .lambda) (a .delta)) (a .at) (c .if1 .taken)
 
 at-requires : tie.Need-at-requires
 at-requires c κs =
@@ -35,19 +35,19 @@ returns-2 : tie.Need-returns-2
 returns-2 c =
     let read = c .before .before in
     let a = start read .args in
-    base-strays (a .sizes) (now (a .rows)) (now (a .lambda)) (now (a .delta)) (a .at) (read .before .before .if1 .left) (read .at .result) (read .at .ensures) (c .if2 .taken)
+    base-strays (lent (a .sizes) (a .rows) (a .lambda) (a .delta)) (a .at) (read .before .before .if1 .left) (read .at .result) (read .at .ensures) (c .if2 .taken)
 
-add-t10 : tie.Need-add-t10
-add-t10 c = search needs
+add-t11 : tie.Need-add-t11
+add-t11 c = search needs
 
 cast-to : tie.Need-cast-to
 cast-to c = search needs
 
-shared-slice-read-t18 : tie.Need-shared-slice-read-t18
-shared-slice-read-t18 c = search needs
+lambda-at-requires : tie.Need-lambda-at-requires
+lambda-at-requires c κs = search needs
 
-shared-slice-read-t21 : tie.Need-shared-slice-read-t21
-shared-slice-read-t21 c = search needs
+delta-at-requires : tie.Need-delta-at-requires
+delta-at-requires c κs = search needs
 
 marks-refused-requires : tie.Need-marks-refused-requires
 marks-refused-requires c κs = search needs
@@ -56,13 +56,13 @@ returns-3 : tie.Need-returns-3
 returns-3 c =
     let read = c .before .before .before .before .before .before .before in
     let a = start read .args in
-    base-marks (a .sizes) (now (a .rows)) (now (a .lambda)) (now (a .delta)) (a .at) (read .before .before .if1 .left) (read .at .result) (read .at .ensures) (c .before .before .before .before .before .if2 .left) (c .before .marks-refused .ensures) (c .if3 .taken)
+    base-marks (lent (a .sizes) (a .rows) (a .lambda) (a .delta)) (a .at) (read .before .before .if1 .left) (read .at .result) (read .at .ensures) (c .before .before .before .before .before .if2 .left) (rw (c .before .before .before .lambda-at .ensures, c .before .before .delta-at .ensures) at (c .before .marks-refused .ensures)) (c .if3 .taken)
 
 returns-4 : tie.Need-returns-4
 returns-4 c =
     let read = c .before .before .before .before .before .before .before in
     let a = start read .args in
-    base-ends (a .sizes) (now (a .rows)) (now (a .lambda)) (now (a .delta)) (a .at) (read .before .before .if1 .left) (read .at .result) (read .at .ensures) (c .before .before .before .before .before .if2 .left) (c .before .marks-refused .ensures) (c .if3 .left)
+    base-ends (lent (a .sizes) (a .rows) (a .lambda) (a .delta)) (a .at) (read .before .before .if1 .left) (read .at .result) (read .at .ensures) (c .before .before .before .before .before .if2 .left) (rw (c .before .before .before .lambda-at .ensures, c .before .before .delta-at .ensures) at (c .before .marks-refused .ensures)) (c .if3 .left)
 
 pub read-base-spec : {M : Type 1} → statement M
 read-base-spec =
@@ -74,10 +74,10 @@ read-base-spec =
     returns
     at-requires
     returns-2
-    add-t10
+    add-t11
     cast-to
-    shared-slice-read-t18
-    shared-slice-read-t21
+    lambda-at-requires
+    delta-at-requires
     marks-refused-requires
     returns-3
     returns-4)

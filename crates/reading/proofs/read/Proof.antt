@@ -1,16 +1,16 @@
 -- `reading::read` meets its contract. Assumes nothing.
 use mathlib.Core.Path.{_≡_, sym}
-use denote.Ref.{now}
 use borrow.Author.Needs.{needs}
 use Rattle.maps.specs.Verdict.{accepted}
 use Rattle.maps.specs.Read.{question, readLent, readSince}
+use Rattle.answers.specs.Pyramid.{lent}
 use Rattle.answers.proofs.Refusals.{refusal-refuses, told}
 use Rattle.questions.proofs.Questions.{question-walks}
 use Rattle.reading.proofs.read.Statement.{statement}
 use Rattle.reading.proofs.read.Tie as tie
 
 -- the question is accepted
-ok : (c : tie.After-enum-told) → let a = c .before .before .before .before .before .before .args in question (a .n .0) (a .darts) (a .h .0) (now (a .rows)) (now (a .lambda)) (now (a .delta)) (a .level .0) (a .involution .0) (a .dart) ≡ accepted
+ok : (c : tie.After-enum-told) → let a = c .before .before .before .before .before .before .args in question (lent (a .sizes) (a .rows) (a .lambda) (a .delta)) (a .asked .level .0) (a .asked .involution .0) (a .asked .dart) ≡ accepted
 ok c = sym (told (c .before .before .question .ensures) (c .enum-told .given .1))
 
 question-requires : tie.Need-question-requires
@@ -23,7 +23,7 @@ enum-told : tie.Need-enum-told
 enum-told c = search needs
 
 walk-requires : tie.Need-walk-requires
-walk-requires c κs = let a = c .before .before .before .before .before .before .args in question-walks (a .n .0) (a .darts) (a .h .0) (now (a .rows)) (now (a .lambda)) (now (a .delta)) (a .level .0) (a .involution .0) (a .dart) (ok c)
+walk-requires c κs = let a = c .before .before .before .before .before .before .args in question-walks (lent (a .sizes) (a .rows) (a .lambda) (a .delta)) (a .asked .level .0) (a .asked .involution .0) (a .asked .dart) (ok c)
 
 returns : tie.Need-returns
 unfolding readLent readSince

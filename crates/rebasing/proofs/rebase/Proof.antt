@@ -9,6 +9,7 @@ use Rattle.maps.specs.Table.{entry, each}
 use Rattle.maps.specs.Folded.{levelTable}
 use Rattle.maps.specs.Rebase.{rebaseLent}
 use Rattle.laws.proofs.Tables.{length-listed}
+use Rattle.answers.specs.Pyramid.{given}
 use Rattle.answers.proofs.Refusals.{told}
 use Rattle.rebasing.proofs.Tests.{passed}
 use Rattle.rebasing.proofs.Whole.{refused-answers, accepted-answers, reached, lent, level-fits}
@@ -22,7 +23,7 @@ start c = c .before .before .before .before .before .before .before .before .bef
 abbrev tests : tie.After-enum-told → tie.After-tested
 tests c = c .before .before .before .before
 
-verdict : (c : tie.After-enum-told) → let a = start (tests c) .args in rebaseLent (a .n .0) (a .darts) (a .h .0) (now (a .rows)) (now (a .lambda)) (now (a .delta)) (now (a .table)) (a .level .0) (now (a .old)) ≡ accepted
+verdict : (c : tie.After-enum-told) → let a = start (tests c) .args in rebaseLent (given (a .n .0) (a .darts) (a .h .0) (a .rows) (a .lambda) (a .delta)) (now (a .table)) (a .level .0) (now (a .old)) ≡ accepted
 verdict c = sym (told (tests c .tested .ensures .0) (c .enum-told .given .1))
 
 -- where they are passed, from the climb; the climb, from the ranks; the ranks, from the packed rows

@@ -10,6 +10,7 @@ use Rattle.maps.specs.Sizes.{hasLength}
 use Rattle.maps.specs.Table.{each}
 use Rattle.maps.specs.CheckPyramid.{checkLent}
 use Rattle.maps.specs.NewBase.{newDarts}
+use Rattle.answers.specs.Pyramid.{given}
 use Rattle.facts.proofs.ExactJobs.{check-accepts}
 use Rattle.answers.specs.Numbers.{verdictOf}
 use Rattle.answers.specs.Lent.{lentOf}
@@ -39,7 +40,7 @@ fits c = told (sized (c .before .before)) (c .enum-told .given .1)
 abbrev asked : tie.After-enum-told2 → tie.Start
 asked c = start (first (check c) .before .before)
 
-checked : (c : tie.After-enum-told2) → let a = asked c .args in accepted ≡ checkLent (a .n .0) (a .darts) (a .h .0) (now (a .rows)) (now (a .lambda)) (now (a .delta)) (now (a .table))
+checked : (c : tie.After-enum-told2) → let a = asked c .args in accepted ≡ checkLent (given (a .n .0) (a .darts) (a .h .0) (a .rows) (a .lambda) (a .delta)) (now (a .table))
 checked c = told (check c .check .ensures .0) (c .enum-told2 .given .1)
 
 -- the check passed, from where the level is one of the pyramid's
@@ -47,7 +48,7 @@ abbrev high : tie.Else1 → tie.After-enum-told2
 high c = c .before .before .before
 
 long : (c : tie.After-enum-told2) → let a = asked c .args in (length (now (a .lambda)) ≡ a .darts) × (a .darts ≤ 4096)
-long c = let p = check-accepts _ _ _ _ _ _ _ (sym (checked c)) in (p .lambda-length, p .darts .1)
+long c = let p = check-accepts _ _ (sym (checked c)) in (p .lambda-length, p .darts .1)
 
 -- the survivors counted are those of the level
 many : (c : tie.After-survivors) → let a = asked (high (c .before)) .args in c .survivors .result ≡ newDarts (a .darts) (each (now (a .lambda))) (a .level .0)

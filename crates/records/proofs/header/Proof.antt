@@ -12,4 +12,4 @@ header-spec =
     (λ c κs. search needs)
     (λ c κs. search needs)
     (λ c κs. search needs)
-    (λ c. c .first-of .ensures ∙ ap₂ _then_ (c .before .before .field .ensures) (c .before .sizes .ensures)))
+    (λ c. c .first-of .ensures ∙ ap₂ _then_ (c .before .before .field .ensures) (c .before .in-range .ensures)))

@@ -7,8 +7,7 @@ use denote.Ref.{now}
 use borrow.Author.Needs.{needs}
 use borrow.Author.Tests.{not-true, not-false}
 use Rattle.orbits.specs.Search.{has, Room}
-use Rattle.orbits.proofs.Sets.{none-has, none-room}
-use Rattle.orbits.proofs.Decided.{none}
+use Rattle.orbits.proofs.OrbitLaws.{none, none-has, none-room}
 use Rattle.regions.proofs.Naming.{Naming, naming-none, naming-all, naming-pass, naming-ready, naming-add}
 use Rattle.regions.proofs.name_orbits.Statement.{statement}
 use Rattle.regions.proofs.name_orbits.Tie as tie

@@ -13,23 +13,20 @@ use Rattle.regions.proofs.region_choices.Statement.{statement}
 use Rattle.regions.proofs.region_choices.Tie as tie
 
 abbrev Inv-loop : tie.InvT-loop
-Inv-loop n darts lambda delta level choices₀ d₀ choices d =
-    (d ≤ darts) × (length choices ≡ 4096) × ((k : ℕ) → k < d → (j : ℕ) → j ≤ n .0 → chosen choices j k ≡ regionRows (n .0) (each lambda) (each delta) (level .0) j k)
+Inv-loop n lambda delta level choices₀ d₀ d-end choices d =
+    (d ≤ d-end) × (length choices ≡ 4096) × ((k : ℕ) → k < d → (j : ℕ) → j ≤ n .0 → chosen choices j k ≡ regionRows (n .0) (each lambda) (each delta) (level .0) j k)
 
 abbrev μ-loop : tie.MeasureT-loop
-μ-loop n darts lambda delta level choices₀ d₀ choices d = darts - d
+μ-loop n lambda delta level choices₀ d₀ d-end choices d = d-end - d
 
 loop-holds : tie.Need-loop-holds Inv-loop μ-loop
 loop-holds c = (zero-le, length-replicate {A = ℕ} 4096 0, λ k l. absurd (omega arith))
 
-cast-at : tie.Need-cast-at Inv-loop μ-loop
-cast-at c = search needs
+lambda-at-requires : tie.Need-lambda-at-requires Inv-loop μ-loop
+lambda-at-requires c κs = search needs
 
-shared-slice-read-t12 : tie.Need-shared-slice-read-t12 Inv-loop μ-loop
-shared-slice-read-t12 c = search needs
-
-shared-slice-read-t15 : tie.Need-shared-slice-read-t15 Inv-loop μ-loop
-shared-slice-read-t15 c = search needs
+delta-at-requires : tie.Need-delta-at-requires Inv-loop μ-loop
+delta-at-requires c κs = search needs
 
 rows-from-requires : tie.Need-rows-from-requires Inv-loop μ-loop
 rows-from-requires c κs = search needs
@@ -47,7 +44,7 @@ loop-again : tie.Need-loop-again Inv-loop μ-loop
 loop-again c =
     let a = c .before .before .before .before .before .before .before .args in
     let l = c .before .before .before .before .loop in
-    (omega arith, simp length-set (l .inv .1), choices-more (a .n .0) (each (now (a .lambda))) (each (now (a .delta))) (a .level .0) (l .choices) (l .d) (c .rows-from .result) (omega (arith, l .inv .1, c .before .before .before .before .before .before .before .pre)) (l .inv .2) (c .rows-from .ensures))
+    (omega arith, simp length-set (l .inv .1), choices-more (a .n .0) (each (now (a .lambda))) (each (now (a .delta))) (a .level .0) (l .choices) (l .d) (c .rows-from .result) (omega (arith, l .inv .1, c .before .before .before .before .before .before .before .pre)) (l .inv .2) (rw (c .before .before .lambda-at .ensures, c .before .delta-at .ensures) at (c .rows-from .ensures)))
 
 returns : tie.Need-returns Inv-loop μ-loop
 returns c =
@@ -61,9 +58,8 @@ region-choices-spec =
     Inv-loop
     μ-loop
     loop-holds
-    cast-at
-    shared-slice-read-t12
-    shared-slice-read-t15
+    lambda-at-requires
+    delta-at-requires
     rows-from-requires
     array-write-choices
     add-d

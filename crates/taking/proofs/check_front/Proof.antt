@@ -7,6 +7,7 @@ use lib.Seq.{length-take-le}
 use denote.Ref.{now}
 use borrow.Author.Needs.{needs}
 use Rattle.maps.specs.CheckPyramid.{checkLent, checkLeaves}
+use Rattle.maps.specs.Folded.{ofParts}
 use Rattle.taking.proofs.check_front.Statement.{statement}
 use Rattle.taking.proofs.check_front.Tie as tie
 
@@ -41,8 +42,8 @@ returns c =
     let D = take (a .darts) (now (a .delta)) in
     let T = now (a .table) in
     let same = z .entries .ensures in (
-      e .0 ∙ ap (λ (m : ℕ). checkLent (a .n .0) (a .darts) (a .h .0) (take m R) L D (take m T)) same,
-      ap (λ (x : List ℕ). x ++ drop (z .entries .result) T) (e .1) ∙ ap (λ (m : ℕ). checkLeaves (a .n .0) (a .darts) (a .h .0) (take m R) L D (take m T) ++ drop m T) same,
+      e .0 ∙ ap (λ (m : ℕ). checkLent (ofParts (a .n .0) (a .darts) (a .h .0) (take m R) L D) (take m T)) same,
+      ap (λ (x : List ℕ). x ++ drop (z .entries .result) T) (e .1) ∙ ap (λ (m : ℕ). checkLeaves (ofParts (a .n .0) (a .darts) (a .h .0) (take m R) L D) (take m T) ++ drop m T) same,
     )
 
 pub check-front-spec : {M : Type 1} → statement M

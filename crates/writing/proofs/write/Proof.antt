@@ -8,6 +8,7 @@ use Rattle.maps.specs.Verdict.{accepted}
 use Rattle.maps.specs.CheckPyramid.{checkLent}
 use Rattle.maps.specs.Accepted.{Accepted}
 use Rattle.maps.specs.Write.{writeTable}
+use Rattle.answers.specs.Pyramid.{given}
 use Rattle.answers.proofs.Refusals.{told}
 use Rattle.writing.proofs.Whole.{check-refused, accepts, too-short, all-written}
 use Rattle.writing.proofs.write.Statement.{statement}
@@ -18,10 +19,10 @@ abbrev start : tie.After-check → tie.Start
 start k = k .before .before .before .before .before .before .before
 
 -- the check has accepted
-fine : (c : tie.After-enum-told) → let a = start (c .before .before .before .before) .args in accepted ≡ checkLent (a .n .0) (a .darts) (a .h .0) (now (a .rows)) (now (a .lambda)) (now (a .delta)) (now (a .table))
+fine : (c : tie.After-enum-told) → let a = start (c .before .before .before .before) .args in accepted ≡ checkLent (given (a .n .0) (a .darts) (a .h .0) (a .rows) (a .lambda) (a .delta)) (now (a .table))
 fine c = told (c .before .before .before .before .check .ensures .0) (c .enum-told .given .1)
 
-accepted-at : (c : tie.After-enum-told) → let a = start (c .before .before .before .before) .args in Accepted (a .n .0) (a .darts) (a .h .0) (now (a .rows)) (now (a .lambda)) (now (a .delta)) (now (a .table))
+accepted-at : (c : tie.After-enum-told) → let a = start (c .before .before .before .before) .args in Accepted (given (a .n .0) (a .darts) (a .h .0) (a .rows) (a .lambda) (a .delta)) (now (a .table))
 accepted-at c = accepts _ _ _ _ _ _ _ (now (start (c .before .before .before .before) .args .bytes)) (fine c)
 
 returns : tie.Need-returns

@@ -21,11 +21,11 @@ abbrev μ-loop : tie.MeasureT-loop
 loop-holds : tie.Need-loop-holds Inv-loop μ-loop
 loop-holds c = (refl, zero-le, λ e. below-none _)
 
-shared-slice-read-t11 : tie.Need-shared-slice-read-t11 Inv-loop μ-loop
-shared-slice-read-t11 c = search needs
+lambda-at-requires : tie.Need-lambda-at-requires Inv-loop μ-loop
+lambda-at-requires c κs = search needs
 
-shared-slice-read-t14 : tie.Need-shared-slice-read-t14 Inv-loop μ-loop
-shared-slice-read-t14 c = search needs
+delta-at-requires : tie.Need-delta-at-requires Inv-loop μ-loop
+delta-at-requires c κs = search needs
 
 marks-refused-requires : tie.Need-marks-refused-requires Inv-loop μ-loop
 marks-refused-requires c κs = search needs
@@ -37,7 +37,7 @@ loop-less : tie.Need-loop-less Inv-loop μ-loop
 loop-less c = search needs
 
 loop-again : tie.Need-loop-again Inv-loop μ-loop
-loop-again c = let l = c .before .before .before .before .loop in (refl, omega arith, λ e. let n = neither (l .any) (c .marks-refused .result) e in below-more _ (l .at) (l .inv .2 (n .0)) (sym (c .marks-refused .ensures) ∙ n .1))
+loop-again c = let l = c .before .before .before .before .loop in (refl, omega arith, λ e. let n = neither (l .any) (c .marks-refused .result) e in below-more _ (l .at) (l .inv .2 (n .0)) (rw (c .before .before .lambda-at .ensures, c .before .delta-at .ensures) at (sym (c .marks-refused .ensures) ∙ n .1)))
 
 returns : tie.Need-returns Inv-loop μ-loop
 returns c e x f = c .before .loop .inv .2 e x (omega arith)
@@ -49,8 +49,8 @@ any-refused-spec =
     Inv-loop
     μ-loop
     loop-holds
-    shared-slice-read-t11
-    shared-slice-read-t14
+    lambda-at-requires
+    delta-at-requires
     marks-refused-requires
     add-at
     loop-less

@@ -12,8 +12,8 @@ lower-row-requires c κs = search needs
 
 returns : tie.Need-returns
 returns c =
-    let a = c .before .before .args in
-    ap (λ (x : ℕ). ltb x (a .n .0)) (c .before .lower-row .ensures) ∙ sym (lower-mark (a .n .0) (a .mark .0))
+    let a = c .before .before .before .args in
+    ap (λ (x : ℕ). ltb x (a .n .0)) (c .before .before .lower-row .ensures) ∙ sym (lower-mark (a .n .0) (a .mark .0))
 
 pub is-mark-spec : {M : Type 1} → statement M
 is-mark-spec = tie.close (tie.spec lower-row-requires returns)

@@ -2,13 +2,13 @@
 use mathlib.Core.Path.{refl}
 use native.Mathlib.Omega.{arith}
 use borrow.Author.Tests.{lt-ltb, le-ltb}
-use Rattle.laws.proofs.Marks.{lower}
+use Rattle.maps.specs.Mark.{lower}
 use borrow.Author.Needs.{needs}
 use Rattle.answers.proofs.marks.lower_row.Statement.{statement}
 use Rattle.answers.proofs.marks.lower_row.Tie as tie
 
-sub-result : tie.Need-sub-result
-sub-result c = search needs
+sub-t3 : tie.Need-sub-t3
+sub-t3 c = search needs
 
 returns : tie.Need-returns
 unfolding lower
@@ -19,4 +19,4 @@ unfolding lower
 returns-2 c = let a = c .before .before .args in simp (le-ltb 8 (a .mark .0) (omega arith)) refl
 
 pub lower-row-spec : {M : Type 1} → statement M
-lower-row-spec = tie.close (tie.spec sub-result returns returns-2)
+lower-row-spec = tie.close (tie.spec sub-t3 returns returns-2)

@@ -5,8 +5,8 @@ use Prim.Native.Nat.{ℕ, _+_, _-_}
 use native.Mathlib.Omega.{arith}
 use lib.Dec.{eqb}
 use borrow.Author.Tests.{eq-eqb, ne-eqb}
-use Rattle.maps.specs.Mark.{canPass, across}
-use Rattle.laws.proofs.Marks.{lower, lower-most, lower-pass, lower-across}
+use Rattle.maps.specs.Mark.{lower, canPass, across}
+use Rattle.laws.proofs.Marks.{lower-most, lower-pass, lower-across}
 use borrow.Author.Needs.{needs}
 use Rattle.answers.proofs.marks.row_across.Statement.{statement}
 use Rattle.answers.proofs.marks.row_across.Tie as tie
@@ -31,31 +31,31 @@ lower-row-requires c κs = search needs
 
 add-t5 : tie.Need-add-t5
 add-t5 c =
-    let a = c .before .before .before .before in
-    omega (arith, lower-most (a .args .mark .0), c .before .before .before .lower-row .ensures, c .before .if1 .taken)
+    let a = c .before .before .before .before .before in
+    omega (arith, lower-most (a .args .mark .0), c .before .before .before .before .lower-row .ensures, c .before .if1 .taken)
 
 returns : tie.Need-returns
 returns c =
-    let a = c .before .before .before .before .args in
-    up (a .mark .0) (a .t .0) (c .before .if1 .taken ∙ c .before .before .before .lower-row .ensures)
+    let a = c .before .before .before .before .before .args in
+    up (a .mark .0) (a .t .0) (c .before .if1 .taken ∙ c .before .before .before .before .lower-row .ensures)
 
 add-if2 : tie.Need-add-if2
-add-if2 c = omega (arith, lower-most (c .before .before .before .args .mark .0), c .before .before .lower-row .ensures)
+add-if2 c = omega (arith, lower-most (c .before .before .before .before .before .args .mark .0), c .before .before .before .before .lower-row .ensures)
 
 sub-t8 : tie.Need-sub-t8
 sub-t8 c = omega (arith, c .before .if2 .taken)
 
 returns-2 : tie.Need-returns-2
 returns-2 c =
-    let a = c .before .before .before .before .before .before .args in
-    down (a .mark .0) (a .t .0) (c .before .if2 .taken ∙ ap (λ (x : ℕ). x + 1) (c .before .before .before .before .before .lower-row .ensures))
+    let a = c .before .before .before .before .before .before .before .before .args in
+    down (a .mark .0) (a .t .0) (c .before .if2 .taken ∙ ap (λ (x : ℕ). x + 1) (c .before .before .before .before .before .before .before .lower-row .ensures))
 
 returns-3 : tie.Need-returns-3
 returns-3 c =
-    let a = c .before .before .before .before .before .args in
-    let e = c .before .before .before .before .lower-row .ensures in
+    let a = c .before .before .before .before .before .before .before .args in
+    let e = c .before .before .before .before .before .before .lower-row .ensures in
     lower-pass (a .mark .0) (a .t .0)
-    ∙ ap (λ (x : Bool). x || eqb (a .t .0) (lower (a .mark .0) + 1)) (ne-eqb (a .t .0) (lower (a .mark .0)) (λ same. c .before .before .if1 .left (same ∙ sym e)))
+    ∙ ap (λ (x : Bool). x || eqb (a .t .0) (lower (a .mark .0) + 1)) (ne-eqb (a .t .0) (lower (a .mark .0)) (λ same. c .before .before .before .if1 .left (same ∙ sym e)))
     ∙ ne-eqb (a .t .0) (lower (a .mark .0) + 1) (λ same. c .if2 .left (same ∙ sym (ap (λ (x : ℕ). x + 1) e)))
 
 pub row-across-spec : {M : Type 1} → statement M

@@ -20,7 +20,7 @@ enum-known-r c = search needs
 returns : tie.Need-returns
 returns c =
     let a = c .before .before .before .before .args in
-    refused-then (c .before .r .given .0 .0) (lentOf (a .n .0) (a .darts) (a .h .0) (a .fit)) (number11 (a .h .0) (a .question .level .0) (a .question .involution .0) (a .question .dart)) (ap verdictOf (sym (c .before .r .given .1)) ∙ c .before .before .before .lent .ensures)
+    refused-then (c .before .r .given .0 .0) (lentOf (a .sizes .n .0) (a .sizes .darts) (a .sizes .h .0) (a .fit)) (number11 (a .sizes .h .0) (a .question .level .0) (a .question .involution .0) (a .question .dart)) (ap verdictOf (sym (c .before .r .given .1)) ∙ c .before .before .before .lent .ensures)
 
 enum-told : tie.Need-enum-told
 enum-told c = search needs
@@ -29,13 +29,13 @@ returns-2 : tie.Need-returns-2
 unfolding number11
 returns-2 c =
     let a = c .before .before .before .before .before .before .before .before .args in
-    rw (← (c .before .before .before .before .before .before .before .lent .ensures), c .before .before .before .before .before .enum-told .given .1, lt-ltb (a .h .0) (a .question .level .0) (omega arith))
+    rw (← (c .before .before .before .before .before .before .before .lent .ensures), c .before .before .before .before .before .enum-told .given .1, lt-ltb (a .sizes .h .0) (a .question .level .0) (omega arith))
 
 returns-3 : tie.Need-returns-3
 unfolding number11
 returns-3 c =
     let a = c .before .before .before .before .before .before .before .args in
-    rw (← (c .before .before .before .before .before .before .lent .ensures), c .before .before .before .before .enum-told .given .1, le-ltb (a .h .0) (a .question .level .0) (omega arith))
+    rw (← (c .before .before .before .before .before .before .lent .ensures), c .before .before .before .before .enum-told .given .1, le-ltb (a .sizes .h .0) (a .question .level .0) (omega arith))
 
 pub asked-spec : {M : Type 1} → statement M
 asked-spec = tie.close (tie.spec lent-requires enum-known-r returns enum-told returns-2 returns-3)

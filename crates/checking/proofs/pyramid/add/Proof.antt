@@ -8,6 +8,7 @@ use Rattle.maps.specs.Verdict.{accepted}
 use Rattle.maps.specs.Table.{each, listed}
 use Rattle.maps.specs.Folded.{addΛ, addΔ}
 use Rattle.laws.proofs.Verdicts.{then-accepted}
+use Rattle.answers.specs.Pyramid.{lent}
 use Rattle.answers.proofs.Refusals.{told}
 use Rattle.checking.specs.Checked.{baseAndMarks}
 use Rattle.checking.specs.Added.{addSizes, rowMarks, addMarks}
@@ -27,13 +28,13 @@ abbrev marked-at : tie.After-ascend → tie.After-enum-told2
 marked-at c = c .before .before .before .before
 
 -- past the first tests 1 to 4 and 20 are not refused; past the second, 5 to 8 are not
-sized : (c : tie.After-enum-told) → let a = start c .args in accepted ≡ addSizes (a .n .0) (a .darts) (a .h .0) (now (a .rows)) (now (a .lambda)) (now (a .delta)) (now (a .row)) (now (a .table))
+sized : (c : tie.After-enum-told) → let a = start c .args in accepted ≡ addSizes (lent (a .sizes) (a .rows) (a .lambda) (a .delta)) (now (a .row)) (now (a .table))
 sized c = told (c .before .before .add-lent .ensures) (c .enum-told .given .1)
 
-facts : (c : tie.After-enum-told) → let a = start c .args in Lent (a .n .0) (a .darts) (a .h .0) (now (a .rows)) (now (a .lambda)) (now (a .delta)) (now (a .table)) × (length (now (a .row)) ≡ a .darts)
-facts c = let a = start c .args in add-facts (a .n .0) (a .darts) (a .h .0) (now (a .rows)) (now (a .lambda)) (now (a .delta)) (now (a .row)) (now (a .table)) (sym (sized c))
+facts : (c : tie.After-enum-told) → let a = start c .args in Lent (lent (a .sizes) (a .rows) (a .lambda) (a .delta)) (now (a .table)) × (length (now (a .row)) ≡ a .sizes .darts)
+facts c = let a = start c .args in add-facts (lent (a .sizes) (a .rows) (a .lambda) (a .delta)) (now (a .row)) (now (a .table)) (sym (sized c))
 
-marked : (c : tie.After-enum-told2) → let a = start (lent-at c) .args in accepted ≡ addMarks (a .n .0) (a .darts) (a .h .0) (now (a .rows)) (now (a .lambda)) (now (a .delta)) (now (a .row))
+marked : (c : tie.After-enum-told2) → let a = start (lent-at c) .args in accepted ≡ addMarks (lent (a .sizes) (a .rows) (a .lambda) (a .delta)) (now (a .row))
 marked c = told (c .before .before .add-marked .ensures) (c .enum-told2 .given .1)
 
 add-lent-requires : tie.Need-add-lent-requires
@@ -55,7 +56,7 @@ returns : tie.Need-returns
 returns c =
     let l : tie.After-add-lent = c .before .before .before in
     let a = l .before .before .before .before .before .before .before .before .before .args in
-    sizes-refused (a .n .0) (a .darts) (a .h .0) (now (a .rows)) (now (a .lambda)) (now (a .delta)) (now (a .row)) (now (a .table)) (c .before .r .given .0 .0) (told (l .add-lent .ensures) (c .before .r .given .1))
+    sizes-refused (lent (a .sizes) (a .rows) (a .lambda) (a .delta)) (now (a .row)) (now (a .table)) (c .before .r .given .0 .0) (told (l .add-lent .ensures) (c .before .r .given .1))
 
 enum-told : tie.Need-enum-told
 enum-told c = search needs
@@ -80,7 +81,7 @@ returns-2 c =
     let m : tie.After-add-marked = c .before .before .before in
     let l = m .before .before .before in
     let a = start l .args in
-    marks-refused (a .n .0) (a .darts) (a .h .0) (now (a .rows)) (now (a .lambda)) (now (a .delta)) (now (a .row)) (now (a .table)) (sized l) (c .before .r2 .given .0 .0) (told (m .add-marked .ensures) (c .before .r2 .given .1))
+    marks-refused (lent (a .sizes) (a .rows) (a .lambda) (a .delta)) (now (a .row)) (now (a .table)) (sized l) (c .before .r2 .given .0 .0) (told (m .add-marked .ensures) (c .before .r2 .given .1))
 
 enum-told-2 : tie.Need-enum-told-2
 enum-told-2 c = search needs
@@ -90,9 +91,9 @@ ascend-requires c κs =
     let m = c .before .before .before in
     let a = start (lent-at m) .args in
     let f = facts (lent-at m) in
-    let p = then-accepted (baseAndMarks (a .n .0) (a .darts) (a .h .0) (now (a .rows)) (now (a .lambda)) (now (a .delta))) (rowMarks (a .n .0) (a .darts) (a .h .0) (now (a .lambda)) (now (a .row))) (sym (marked m)) in (
-      (based (a .n .0) (a .darts) (a .h .0) (now (a .rows)) (now (a .lambda)) (now (a .delta)) (now (a .table)) (f .0) (p .0), f .0 .height, f .0 .table-long),
-      (f .1, row-marks (a .n .0) (a .darts) (a .h .0) (now (a .rows)) (now (a .lambda)) (now (a .delta)) (now (a .row)) (now (a .table)) (p .1)),
+    let p = then-accepted (baseAndMarks (lent (a .sizes) (a .rows) (a .lambda) (a .delta))) (rowMarks (a .sizes .n .0) (a .sizes .darts) (a .sizes .h .0) (now (a .lambda)) (now (a .row))) (sym (marked m)) in (
+      (based (lent (a .sizes) (a .rows) (a .lambda) (a .delta)) (now (a .table)) (f .0) (p .0), f .0 .height, f .0 .table-long),
+      (f .1, row-marks (lent (a .sizes) (a .rows) (a .lambda) (a .delta)) (now (a .row)) (now (a .table)) (p .1)),
     )
 
 enum-known-r-3 : tie.Need-enum-known-r-3
@@ -113,7 +114,7 @@ returns-3 c =
     let m = marked-at k in
     let a = start (lent-at m) .args in
     let e = k .ascend .ensures in
-    ascend-refused (a .n .0) (a .darts) (a .h .0) (now (a .rows)) (now (a .lambda)) (now (a .delta)) (now (a .row)) (now (a .table)) (sized (lent-at m)) (marked m) (e .1) (c .before .r3 .given .0 .0) (told (e .0) (c .before .r3 .given .1))
+    ascend-refused (lent (a .sizes) (a .rows) (a .lambda) (a .delta)) (now (a .row)) (now (a .table)) (sized (lent-at m)) (marked m) (e .1) (c .before .r3 .given .0 .0) (told (e .0) (c .before .r3 .given .1))
 
 enum-told-3 : tie.Need-enum-told-3
 enum-told-3 c = search needs
@@ -128,8 +129,8 @@ fold-in-requires c κs =
 abbrev climbed : tie.After-fold-in → tie.After-ascend
 climbed c = c .before .before .before .before .before .before .before
 
-add-t36 : tie.Need-add-t36
-add-t36 c = omega (arith, facts (lent-at (marked-at (climbed (c .before .before .before .before .before)))) .0 .height)
+add-t34 : tie.Need-add-t34
+add-t34 c = omega (arith, facts (lent-at (marked-at (climbed (c .before .before .before .before .before)))) .0 .height)
 
 same-length-10 : tie.Need-same-length-10
 same-length-10 c = search needs
@@ -148,8 +149,8 @@ returns-4 c =
     let a = start (lent-at m) .args in
     let long = facts (lent-at m) .1 in
     let e = k .ascend .ensures in
-    grown (a .n .0) (a .darts) (a .h .0) (now (a .rows)) (now (a .lambda)) (now (a .delta)) (now (a .row)) (now (a .table)) (sized (lent-at m)) (marked m) (e .1) (told (e .0) (f .before .before .before .enum-told3 .given .1))
-    (f .fold-in .ensures .0 ∙ ap (listed (addΛ (a .n .0) (a .h .0) (each (now (a .lambda))) (each (now (a .row))))) long) (f .fold-in .ensures .1 ∙ ap (listed (addΔ (a .n .0) (each (now (a .delta))) (each (now (a .row))))) long)
+    grown (lent (a .sizes) (a .rows) (a .lambda) (a .delta)) (now (a .row)) (now (a .table)) (sized (lent-at m)) (marked m) (e .1) (told (e .0) (f .before .before .before .enum-told3 .given .1))
+    (f .fold-in .ensures .0 ∙ ap (listed (addΛ (a .sizes .n .0) (a .sizes .h .0) (each (now (a .lambda))) (each (now (a .row))))) long) (f .fold-in .ensures .1 ∙ ap (listed (addΔ (a .sizes .n .0) (each (now (a .delta))) (each (now (a .row))))) long)
 
 pub add-spec : {M : Type 1} → statement M
 add-spec =
@@ -177,7 +178,7 @@ add-spec =
     returns-3
     enum-told-3
     fold-in-requires
-    add-t36
+    add-t34
     same-length-10
     same-length-11
     same-length-12

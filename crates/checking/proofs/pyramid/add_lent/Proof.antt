@@ -8,6 +8,7 @@ use denote.Ref.{now}
 use borrow.Author.Tests.{eq-eqb, ne-eqb}
 use borrow.Author.Needs.{needs}
 use Rattle.maps.specs.AddLevel.{number20}
+use Rattle.answers.specs.Pyramid.{lent}
 use Rattle.answers.specs.Lent.{lentOf}
 use Rattle.answers.specs.Numbers.{verdictOf}
 use Rattle.answers.proofs.Refusals.{told, refused-then}
@@ -22,13 +23,13 @@ start c = c .before .before .before .before .before .before .before .before .bef
 abbrev exact : tie.After-fit → Bool
 exact c =
     let a = start c .args in
-    eqb (length (now (a .rows))) (suc (a .n .0) * a .darts) && (eqb (length (now (a .lambda))) (a .darts) && (eqb (length (now (a .delta))) (a .darts) && (eqb (length (now (a .row))) (a .darts) && eqb (length (now (a .table))) (suc (a .n .0) * a .darts))))
+    eqb (length (now (a .rows))) (suc (a .sizes .n .0) * a .sizes .darts) && (eqb (length (now (a .lambda))) (a .sizes .darts) && (eqb (length (now (a .delta))) (a .sizes .darts) && (eqb (length (now (a .row))) (a .sizes .darts) && eqb (length (now (a .table))) (suc (a .sizes .n .0) * a .sizes .darts))))
 
 fits : (c : tie.After-fit) → c .fit .result ≡ exact c
 fits c = cc (c .fit .ensures, c .before .both .ensures, c .before .before .before .row-fits .ensures, c .before .before .rows-fit .ensures)
 
-four : (c : tie.After-lent) → let a = start (c .before) .args in verdictOf (c .lent .result) ≡ lentOf (a .n .0) (a .darts) (a .h .0) (exact (c .before))
-four c = let a = start (c .before) .args in c .lent .ensures ∙ ap (lentOf (a .n .0) (a .darts) (a .h .0)) (fits (c .before))
+four : (c : tie.After-lent) → let a = start (c .before) .args in verdictOf (c .lent .result) ≡ lentOf (a .sizes .n .0) (a .sizes .darts) (a .sizes .h .0) (exact (c .before))
+four c = let a = start (c .before) .args in c .lent .ensures ∙ ap (lentOf (a .sizes .n .0) (a .sizes .darts) (a .sizes .h .0)) (fits (c .before))
 
 row-fits-requires : tie.Need-row-fits-requires
 row-fits-requires c κs = search needs
@@ -52,18 +53,18 @@ returns : tie.Need-returns
 returns c =
     let l : tie.After-lent = c .before .before .before in
     let a = start (l .before) .args in
-    refused-then (c .before .r .given .0 .0) (lentOf (a .n .0) (a .darts) (a .h .0) (exact (l .before))) (number20 (a .n .0) (a .darts) (a .h .0) (now (a .rows)) (now (a .lambda)) (now (a .delta)) (now (a .row)) (now (a .table))) (told (four l) (c .before .r .given .1))
+    refused-then (c .before .r .given .0 .0) (lentOf (a .sizes .n .0) (a .sizes .darts) (a .sizes .h .0) (exact (l .before))) (number20 ((lent (a .sizes) (a .rows) (a .lambda) (a .delta)) .h)) (told (four l) (c .before .r .given .1))
 
 enum-told : tie.Need-enum-told
 enum-told c = search needs
 
 returns-2 : tie.Need-returns-2
 unfolding number20
-returns-2 c = let t : tie.After-enum-told = c .before .before in rw (← (told (four (t .before .before)) (t .enum-told .given .1)), eq-eqb (start (t .before .before .before) .args .h .0) 32 (c .if1 .taken))
+returns-2 c = let t : tie.After-enum-told = c .before .before in rw (← (told (four (t .before .before)) (t .enum-told .given .1)), eq-eqb (start (t .before .before .before) .args .sizes .h .0) 32 (c .if1 .taken))
 
 returns-3 : tie.Need-returns-3
 unfolding number20
-returns-3 c = let t : tie.After-enum-told = c .before .before in rw (← (told (four (t .before .before)) (t .enum-told .given .1)), ne-eqb (start (t .before .before .before) .args .h .0) 32 (c .if1 .left))
+returns-3 c = let t : tie.After-enum-told = c .before .before in rw (← (told (four (t .before .before)) (t .enum-told .given .1)), ne-eqb (start (t .before .before .before) .args .sizes .h .0) 32 (c .if1 .left))
 
 pub add-lent-spec : {M : Type 1} → statement M
 add-lent-spec =

@@ -2,6 +2,7 @@
 use denote.Ref.{now}
 use borrow.Author.Needs.{needs}
 use Rattle.answers.proofs.Refusals.{told, refused-then}
+use Rattle.answers.specs.Pyramid.{lent}
 use Rattle.checking.specs.Checked.{baseAndMarks}
 use Rattle.checking.specs.Added.{rowMarks}
 use Rattle.checking.proofs.pyramid.add_marked.Statement.{statement}
@@ -17,7 +18,7 @@ returns : tie.Need-returns
 returns c =
     let b : tie.After-base-and-marks = c .before .before .before in
     let a = b .before .before .before .before .before .args in
-    refused-then (c .before .r .given .0 .0) (baseAndMarks (a .n .0) (a .darts) (a .h .0) (now (a .rows)) (now (a .lambda)) (now (a .delta))) (rowMarks (a .n .0) (a .darts) (a .h .0) (now (a .lambda)) (now (a .row))) (told (b .base-and-marks .ensures) (c .before .r .given .1))
+    refused-then (c .before .r .given .0 .0) (baseAndMarks (lent (a .sizes) (a .rows) (a .lambda) (a .delta))) (rowMarks (a .sizes .n .0) (a .sizes .darts) (a .sizes .h .0) (now (a .lambda)) (now (a .row))) (told (b .base-and-marks .ensures) (c .before .r .given .1))
 
 enum-told : tie.Need-enum-told
 enum-told c = search needs

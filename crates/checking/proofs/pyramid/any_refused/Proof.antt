@@ -7,14 +7,16 @@ use native.Mathlib.Omega.{arith}
 use lib.ListN.{length}
 use borrow.Author.Count.{below-none, below-more}
 use borrow.Author.Needs.{needs}
+use Rattle.maps.specs.Table.{each}
 use Rattle.maps.specs.AddLevel.{refusedMark}
+use Rattle.maps.specs.Folded.{ofParts}
 use Rattle.answers.proofs.Bools.{neither}
 use Rattle.checking.proofs.pyramid.any_refused.Statement.{statement}
 use Rattle.checking.proofs.pyramid.any_refused.Tie as tie
 
 abbrev Inv-loop : tie.InvT-loop
 Inv-loop n h lambda row any₀ at₀ at-end any at =
-    (at-end ≡ length row) × (at ≤ at-end) × (any ≡ false → (x : ℕ) → x < at → refusedMark (n .0) (length row) (h .0) [] lambda [] row [] x ≡ false)
+    (at-end ≡ length row) × (at ≤ at-end) × (any ≡ false → (x : ℕ) → x < at → refusedMark (n .0) (h .0) (each lambda) (each row) x ≡ false)
 
 abbrev μ-loop : tie.MeasureT-loop
 μ-loop n h lambda row any₀ at₀ at-end any at = at-end - at

@@ -18,8 +18,8 @@ abbrev start : tie.After-check-base → tie.Start
 start c = c .before .before .before .before
 
 -- 1, 2 and 4 have passed, so the check of the base is that of its map
-map-is : (c : tie.After-check-base) → let a = start c .args in verdictOf (c .check-base .result) ≡ checkMap (entry (a .darts) (now (a .rows))) (a .n .0) (a .darts) (λ d. true)
-map-is c = let s = start c in c .check-base .ensures ∙ base-map (s .args .n .0) (s .args .darts) (now (s .args .rows)) (s .pre .0)
+map-is : (c : tie.After-check-base) → let a = start c .args in verdictOf (c .check-base .result) ≡ checkMap (entry (a .sizes .darts) (now (a .rows))) (a .sizes .n .0) (a .sizes .darts) (λ d. true)
+map-is c = let s = start c in c .check-base .ensures ∙ base-map (s .args .sizes .n .0) (s .args .sizes .darts) (now (s .args .rows)) (s .pre .0)
 
 check-base-requires : tie.Need-check-base-requires
 check-base-requires c κs = search needs
@@ -31,8 +31,8 @@ returns : tie.Need-returns
 returns c =
     let b : tie.After-check-base = c .before .before .before in
     let a = start b .args in
-    refused-then (c .before .r .given .0 .0) (checkMap (entry (a .darts) (now (a .rows))) (a .n .0) (a .darts) (λ d. true))
-    (check8 (entry (a .darts) (now (a .rows))) (a .n .0) (a .darts) (a .h .0) (each (now (a .lambda))) (each (now (a .delta)))) (told (map-is b) (c .before .r .given .1))
+    refused-then (c .before .r .given .0 .0) (checkMap (entry (a .sizes .darts) (now (a .rows))) (a .sizes .n .0) (a .sizes .darts) (λ d. true))
+    (check8 (a .sizes .n .0) (a .sizes .darts) (a .sizes .h .0) (each (now (a .lambda))) (each (now (a .delta)))) (told (map-is b) (c .before .r .given .1))
 
 enum-told : tie.Need-enum-told
 enum-told c = search needs
@@ -45,7 +45,7 @@ unfolding at8 check8 atMarks8
 returns-2 c =
     let b : tie.After-check-base = c .before .before .before in
     let a = start b .args in
-    rw (← (told (map-is b) (c .before .enum-told .given .1))) (c .marks-refusal .ensures ∙ marks-decide (a .n .0) (a .darts) (a .h .0) (now (a .lambda)) (now (a .delta)) 0 (start b .pre .1) (start b .pre .2))
+    rw (← (told (map-is b) (c .before .enum-told .given .1))) (c .marks-refusal .ensures ∙ marks-decide (a .sizes .n .0) (a .sizes .darts) (a .sizes .h .0) (now (a .lambda)) (now (a .delta)) 0 (start b .pre .1) (start b .pre .2))
 
 pub base-and-marks-spec : {M : Type 1} → statement M
 base-and-marks-spec =

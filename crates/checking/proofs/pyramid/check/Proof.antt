@@ -3,6 +3,7 @@ use mathlib.Core.Path.{_≡_, sym}
 use denote.Ref.{now}
 use borrow.Author.Needs.{needs}
 use Rattle.maps.specs.Verdict.{accepted}
+use Rattle.answers.specs.Pyramid.{lent}
 use Rattle.answers.proofs.Refusals.{told}
 use Rattle.checking.specs.Checked.{lentSizes, baseAndMarks}
 use Rattle.checking.proofs.PyramidCheck.{Lent, check-facts, based, check-sizes, check-marks, check-climbed}
@@ -17,13 +18,13 @@ abbrev lent-at : tie.After-enum-told2 → tie.After-enum-told
 lent-at c = c .before .before .before
 
 -- past the first test 1 to 4 are not refused; past the second, 5 to 8 are not
-sized : (c : tie.After-enum-told) → let a = start (c .before .before) .args in accepted ≡ lentSizes (a .n .0) (a .darts) (a .h .0) (now (a .rows)) (now (a .lambda)) (now (a .delta)) (now (a .table))
+sized : (c : tie.After-enum-told) → let a = start (c .before .before) .args in accepted ≡ lentSizes (lent (a .sizes) (a .rows) (a .lambda) (a .delta)) (now (a .table))
 sized c = told (c .before .before .lent .ensures) (c .enum-told .given .1)
 
-facts : (c : tie.After-enum-told) → let a = start (c .before .before) .args in Lent (a .n .0) (a .darts) (a .h .0) (now (a .rows)) (now (a .lambda)) (now (a .delta)) (now (a .table))
-facts c = let a = start (c .before .before) .args in check-facts (a .n .0) (a .darts) (a .h .0) (now (a .rows)) (now (a .lambda)) (now (a .delta)) (now (a .table)) (sym (sized c))
+facts : (c : tie.After-enum-told) → let a = start (c .before .before) .args in Lent (lent (a .sizes) (a .rows) (a .lambda) (a .delta)) (now (a .table))
+facts c = let a = start (c .before .before) .args in check-facts (lent (a .sizes) (a .rows) (a .lambda) (a .delta)) (now (a .table)) (sym (sized c))
 
-marked : (c : tie.After-enum-told2) → let a = start (lent-at c .before .before) .args in accepted ≡ baseAndMarks (a .n .0) (a .darts) (a .h .0) (now (a .rows)) (now (a .lambda)) (now (a .delta))
+marked : (c : tie.After-enum-told2) → let a = start (lent-at c .before .before) .args in accepted ≡ baseAndMarks (lent (a .sizes) (a .rows) (a .lambda) (a .delta))
 marked c = told (c .before .before .base-and-marks .ensures) (c .enum-told2 .given .1)
 
 lent-requires : tie.Need-lent-requires
@@ -39,7 +40,7 @@ returns : tie.Need-returns
 returns c =
     let l : tie.After-lent = c .before .before .before in
     let a = start l .args in
-    check-sizes (a .n .0) (a .darts) (a .h .0) (now (a .rows)) (now (a .lambda)) (now (a .delta)) (now (a .table)) (c .before .r .given .0 .0) (told (l .lent .ensures) (c .before .r .given .1))
+    check-sizes (lent (a .sizes) (a .rows) (a .lambda) (a .delta)) (now (a .table)) (c .before .r .given .0 .0) (told (l .lent .ensures) (c .before .r .given .1))
 
 enum-told : tie.Need-enum-told
 enum-told c = search needs
@@ -57,26 +58,29 @@ returns-2 : tie.Need-returns-2
 returns-2 c =
     let m : tie.After-base-and-marks = c .before .before .before in
     let a = start (m .before .before .before) .args in
-    check-marks (a .n .0) (a .darts) (a .h .0) (now (a .rows)) (now (a .lambda)) (now (a .delta)) (now (a .table)) (sized (m .before)) (c .before .r2 .given .0 .0) (told (m .base-and-marks .ensures) (c .before .r2 .given .1))
+    check-marks (lent (a .sizes) (a .rows) (a .lambda) (a .delta)) (now (a .table)) (sized (m .before)) (c .before .r2 .given .0 .0) (told (m .base-and-marks .ensures) (c .before .r2 .given .1))
 
 enum-told-2 : tie.Need-enum-told-2
 enum-told-2 c = search needs
 
+cast-rise : tie.Need-cast-rise
+cast-rise c = search needs
+
 rise-requires : tie.Need-rise-requires
 rise-requires c κs =
-    let l = lent-at (c .before) in
+    let l = lent-at (c .before .before) in
     let a = start (l .before .before) .args in
-    (based (a .n .0) (a .darts) (a .h .0) (now (a .rows)) (now (a .lambda)) (now (a .delta)) (now (a .table)) (facts l) (sym (marked (c .before))), facts l .table-long)
+    (based (lent (a .sizes) (a .rows) (a .lambda) (a .delta)) (now (a .table)) (facts l) (sym (marked (c .before .before))), facts l .table-long)
 
 same-length-3 : tie.Need-same-length-3
 same-length-3 c = search needs
 
 returns-3 : tie.Need-returns-3
 returns-3 c =
-    let m : tie.After-enum-told2 = c .before .before .before .before in
+    let m : tie.After-enum-told2 = c .before .before .before .before .before in
     let a = start (lent-at m .before .before) .args in
     let e = c .before .before .rise .ensures in
-    check-climbed (a .n .0) (a .darts) (a .h .0) (now (a .rows)) (now (a .lambda)) (now (a .delta)) (now (a .table)) (sized (lent-at m)) (marked m) (e .0) (e .1)
+    check-climbed (lent (a .sizes) (a .rows) (a .lambda) (a .delta)) (now (a .table)) (sized (lent-at m)) (marked m) (e .0) (e .1)
 
 pub check-spec : {M : Type 1} → statement M
 check-spec =
@@ -92,6 +96,7 @@ check-spec =
     same-length-2
     returns-2
     enum-told-2
+    cast-rise
     rise-requires
     same-length-3
     returns-3)

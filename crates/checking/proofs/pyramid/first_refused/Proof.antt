@@ -6,14 +6,16 @@ use Prim.Native.Nat.{_-_, _≤_, zero-le}
 use native.Mathlib.Omega.{arith}
 use denote.Ref.{now}
 use borrow.Author.Needs.{needs}
+use Rattle.maps.specs.Table.{each}
 use Rattle.maps.specs.Verdict.{accepted, refused, when, scan}
 use Rattle.maps.specs.AddLevel.{atRow8}
 use Rattle.laws.proofs.Verdicts.{scan-first, scan-more}
+use Rattle.maps.specs.Folded.{ofParts}
 use Rattle.checking.proofs.pyramid.first_refused.Statement.{statement}
 use Rattle.checking.proofs.pyramid.first_refused.Tie as tie
 
 abbrev Inv-loop : tie.InvT-loop
-Inv-loop n darts h lambda row d₀ d = (d ≤ darts) × (scan d (atRow8 (n .0) darts (h .0) [] lambda [] row []) ≡ accepted)
+Inv-loop n darts h lambda row d₀ d = (d ≤ darts) × (scan d (atRow8 (n .0) (h .0) (each lambda) (each row)) ≡ accepted)
 
 abbrev μ-loop : tie.MeasureT-loop
 μ-loop n darts h lambda row d₀ d = darts - d
@@ -22,7 +24,7 @@ abbrev μ-loop : tie.MeasureT-loop
 abbrev head : tie.After-mark-refused Inv-loop μ-loop → tie.At-loop Inv-loop μ-loop
 head c = c .before .before .before .before
 
-here : (c : tie.After-mark-refused Inv-loop μ-loop) (t : Bool) → c .mark-refused .result ≡ t → let a = head c .before .before .before .args in atRow8 (a .n .0) (a .darts) (a .h .0) [] (now (a .lambda)) [] (now (a .row)) [] (head c .loop .d) ≡ when t (refused 8 (a .h .0) 0 (head c .loop .d))
+here : (c : tie.After-mark-refused Inv-loop μ-loop) (t : Bool) → c .mark-refused .result ≡ t → let a = head c .before .before .before .args in atRow8 (a .n .0) (a .h .0) (each (now (a .lambda))) (each (now (a .row))) (head c .loop .d) ≡ when t (refused 8 (a .h .0) 0 (head c .loop .d))
 unfolding atRow8
 here c t e = let h = head c in ap (λ (t : Bool). when t (refused 8 (h .before .before .before .args .h .0) 0 (h .loop .d))) (sym (c .mark-refused .ensures) ∙ e)
 
@@ -46,7 +48,7 @@ returns : tie.Need-returns Inv-loop μ-loop
 returns c =
     let h = head (c .before) in
     let a = h .before .before .before .args in
-    sym (scan-first (a .darts) (atRow8 (a .n .0) (a .darts) (a .h .0) [] (now (a .lambda)) [] (now (a .row)) []) (h .loop .d) 8 (a .h .0) 0 (h .loop .d) (omega arith) (h .loop .inv .1) (here (c .before) true (c .if1 .taken)))
+    sym (scan-first (a .darts) (atRow8 (a .n .0) (a .h .0) (each (now (a .lambda))) (each (now (a .row)))) (h .loop .d) 8 (a .h .0) 0 (h .loop .d) (omega arith) (h .loop .inv .1) (here (c .before) true (c .if1 .taken)))
 
 add-d : tie.Need-add-d Inv-loop μ-loop
 add-d c = search needs

@@ -10,6 +10,7 @@ use mathlib.Core.Bool.{true, false}
 use Rattle.maps.specs.Verdict.{accepted}
 use Rattle.maps.specs.CheckPyramid.{checkLent}
 use Rattle.laws.proofs.Verdicts.{and-both}
+use Rattle.answers.specs.Pyramid.{given}
 use Rattle.answers.proofs.Refusals.{told}
 use Rattle.counting.proofs.Putting.{exact, other-lengths, other-table, other-left, same-verdict, same-table, same-refused, all-fit, put-left}
 use Rattle.counting.proofs.slices.census_into.Statement.{statement}
@@ -31,7 +32,7 @@ abbrev answered : tie.After-enum-told → tie.After-census
 answered c = c .before .before .before .before
 
 -- it has accepted
-fine : (c : tie.After-enum-told) → let a = start (going-on (answered c) .before) .args in accepted ≡ checkLent (a .n .0) (a .darts) (a .h .0) (now (a .rows)) (now (a .lambda)) (now (a .delta)) (now (a .table))
+fine : (c : tie.After-enum-told) → let a = start (going-on (answered c) .before) .args in accepted ≡ checkLent (given (a .n .0) (a .darts) (a .h .0) (a .rows) (a .lambda) (a .delta)) (now (a .table))
 fine c = told (answered c .census .ensures .0) (c .enum-told .given .1)
 
 returns : tie.Need-returns

@@ -1,14 +1,14 @@
--- `kernels::removing::follow` meets its contract. The invariant: e is of the kernel, with the mark and the rows at hand, and what is left to follow from it ends where all of it does. The measure is the turns left. Assumes nothing.
+-- `kernels::removing::follow` meets its contract. The invariant: e is of the kernel, with the mark and the rows at hand, and what is left to follow from it ends where all of it does, with the turns that are left. The measure is how many these may be. Assumes nothing.
 use mathlib.Core.Path.{_≡_, refl, sym, ap, _∙_}
 use mathlib.Core.Bool.{true}
-use Prim.Native.Nat.{ℕ, _<_}
+use Prim.Native.Nat.{ℕ, _-_, _<_}
 use native.Mathlib.Omega.{arith}
 use lib.Dec.{eqb}
 use denote.Ref.{now}
 use borrow.Author.Tests.{eq-eqb, not-true, not-false}
 use borrow.Author.Needs.{needs}
 use Rattle.maps.specs.Mark.{between}
-use Rattle.maps.specs.Removal.{goOn}
+use Rattle.maps.specs.Removal.{goOn, turnsFrom}
 use Rattle.maps.specs.Table.{each}
 use Rattle.kernels.proofs.Places.{place}
 use Rattle.kernels.proofs.Relinks.{Following, follow-byte, turn-row, turn-first, turn-dart, turn-leaves, turn-byte, turn-stops, turn-on}
@@ -16,10 +16,10 @@ use Rattle.kernels.proofs.removing.follow.Statement.{statement}
 use Rattle.kernels.proofs.removing.follow.Tie as tie
 
 abbrev Inv-loop : tie.InvT-loop
-Inv-loop darts l lambda delta table i mark₀ rows₀ times₀ e₀ mark rows times e = Following darts (l .0) lambda delta table (i .0) e₀ (mark .0) (rows .1 .0) times e
+Inv-loop darts l lambda delta table i mark₀ rows₀ turns₀ e₀ mark rows turns e = Following darts (l .0) lambda delta table (i .0) e₀ (mark .0) (rows .1 .0) turns e
 
 abbrev μ-loop : tie.MeasureT-loop
-μ-loop darts l lambda delta table i mark₀ rows₀ times₀ e₀ mark rows times e = times
+μ-loop darts l lambda delta table i mark₀ rows₀ turns₀ e₀ mark rows turns e = darts - turns
 
 -- the entry, from the head of the loop
 abbrev start : tie.At-loop Inv-loop μ-loop → tie.Start Inv-loop μ-loop
@@ -49,9 +49,11 @@ between-requires c κs =
 
 loop-holds : tie.Need-loop-holds Inv-loop μ-loop
 loop-holds c =
-    let p = c .before .before .before .before .before .before .pre in
+    let s = c .before .before .before .before .before .before in
+    let p = s .pre in
     let m = c .before .mark-of .ensures in
-    record { dart = p .1 .1; removed = eq-eqb _ _ (p .1 .2); mark-is = m; first-row = ap (λ (x : ℕ). between x .0) m ∙ p .1 .3; second-row = c .between .ensures .1; rest = λ n k w li. refl }
+    let all : s .args .darts - 0 ≡ s .args .darts = omega arith in
+    record { dart = p .1 .1; removed = eq-eqb _ _ (p .1 .2); mark-is = m; first-row = ap (λ (x : ℕ). between x .0) m ∙ p .1 .3; second-row = c .between .ensures .1; fits = omega arith; rest = λ n k w li. rw all (refl, omega arith) }
 
 at-requires : tie.Need-at-requires Inv-loop μ-loop
 at-requires c κs = let p = start (c .before) .pre in let s = c .before .loop .inv in place (p .0 .1 .shape) _ _ (turn-row (p .0 .0) (p .0 .1) (p .1 .0) s) (s .dart)
@@ -59,8 +61,8 @@ at-requires c κs = let p = start (c .before) .pre in let s = c .before .loop .i
 at-requires-2 : tie.Need-at-requires-2 Inv-loop μ-loop
 at-requires-2 c κs = let h = c .before .before in let p = start h .pre in place (p .0 .1 .shape) _ _ (p .1 .0) (turn-first (p .0 .0) (p .0 .1) (p .1 .0) (h .loop .inv) (c .at .ensures))
 
-sub-times : tie.Need-sub-times Inv-loop μ-loop
-sub-times c = search needs
+add-turns : tie.Need-add-turns Inv-loop μ-loop
+add-turns c = search needs
 
 removed-requires : tie.Need-removed-requires Inv-loop μ-loop
 removed-requires c κs = omega (arith, met c, start (head c) .pre .0 .0 .lambda-long)
@@ -69,7 +71,8 @@ returns : tie.Need-returns Inv-loop μ-loop
 returns c =
     let t = c .before .before in
     let p = start (head t) .pre in
-    (turn-leaves (p .0 .0) (p .0 .1) (p .1 .0) (head t .loop .inv) (t .before .at .ensures) (t .at2 .ensures) (t .before .before .loop-test .taken) (sym (c .before .removed .ensures) ∙ not-true _ (c .if1 .taken)), met t)
+    let g = turn-leaves (p .0 .0) (p .0 .1) (p .1 .0) (head t .loop .inv) (t .before .at .ensures) (t .at2 .ensures) (t .before .before .loop-test .taken) (sym (c .before .removed .ensures) ∙ not-true _ (c .if1 .taken)) in
+    ((sym (g .0), met t), sym (g .1))
 
 mark-of-requires-2 : tie.Need-mark-of-requires-2 Inv-loop μ-loop
 mark-of-requires-2 c κs = let t = c .before .before in omega (arith, met t, start (head t) .pre .0 .0 .delta-long)
@@ -85,7 +88,8 @@ returns-2 c =
     let b : tie.After-between2 Inv-loop μ-loop = c .before .before .before in
     let t = turn (b .before) .before .before in
     let p = start (head t) .pre in
-    (turn-stops (p .0 .0) (p .0 .1) (p .1 .0) (head t .loop .inv) (t .before .at .ensures) (t .at2 .ensures) (t .before .before .loop-test .taken) (inside (turn (b .before))) (b .before .before .before .before .mark-of2 .ensures) (λ e. c .if3 .taken (b .between2 .ensures .0 ∙ e)), met t)
+    let g = turn-stops (p .0 .0) (p .0 .1) (p .1 .0) (head t .loop .inv) (t .before .at .ensures) (t .at2 .ensures) (t .before .before .loop-test .taken) (inside (turn (b .before))) (b .before .before .before .before .mark-of2 .ensures) (λ e. c .if3 .taken (b .between2 .ensures .0 ∙ e)) in
+    ((sym (g .0), met t), sym (g .1))
 
 loop-less : tie.Need-loop-less Inv-loop μ-loop
 loop-less c = search needs
@@ -109,12 +113,14 @@ loop-again-2 c =
     turn-on (p .0 .0) (p .0 .1) (p .1 .0) s (t .before .at .ensures) (t .at2 .ensures) (t .before .before .loop-test .taken) (inside e) (sym (c .if2 .left) ∙ c .before .before .before .mark-of2 .ensures) (s .first-row) (s .second-row)
 
 returns-3 : tie.Need-returns-3 Inv-loop μ-loop
-unfolding goOn
+unfolding goOn turnsFrom
 returns-3 c =
     let l = c .before .loop in
-    let p = start (c .before) .pre in
-    let z : l .times ≡ 0 = omega arith in
-    (sym (rw z at (l .inv .rest _ (p .0 .0) (p .0 .1) (p .1 .0))), l .inv .dart)
+    let s = start (c .before) in
+    let p = s .pre in
+    let z : s .args .darts - l .turns ≡ 0 = omega arith in
+    let g = rw z at (l .inv .rest _ (p .0 .0) (p .0 .1) (p .1 .0)) in
+    ((sym (g .0), l .inv .dart), omega (arith, g .1))
 
 pub follow-spec : {M : Type 1} → statement M
 follow-spec =
@@ -127,7 +133,7 @@ follow-spec =
     loop-holds
     at-requires
     at-requires-2
-    sub-times
+    add-turns
     removed-requires
     returns
     mark-of-requires-2

@@ -1,4 +1,4 @@
--- `kernels::removing::relink` meets its contract. The invariant: a link is set at both ends or as before, by whether it passes one of the darts passed first or last; and links are counted where they begin. The measure is the darts left. Assumes nothing.
+-- `kernels::removing::relink` meets its contract. The invariant: a link is set at both ends or as before, by whether it passes one of the darts passed first or last; and the turns are those of the links begun. The measure is the darts left. Assumes nothing.
 use mathlib.Core.Path.{_≡_, sym, ap, _∙_}
 use mathlib.Core.Logic.{⊎-elim}
 use Prim.Native.Nat.{ℕ, _-_, _≤_, _<_}
@@ -11,18 +11,18 @@ use Rattle.laws.proofs.Marks.{mark-byte}
 use Rattle.kernels.specs.Strings.{kernelRow}
 use Rattle.kernels.specs.Ready.{Place}
 use Rattle.kernels.proofs.Strung.{in-kernel, mark-is}
-use Rattle.kernels.proofs.Links.{linksTo, links-few, links-start, links-all}
+use Rattle.kernels.proofs.Links.{turnsTo, turns-fit, turns-few, turns-start, turns-all}
 use Rattle.kernels.proofs.Places.{place, place-still}
 use Rattle.kernels.proofs.Relinks.{RelinkTo, relink-start, relink-all, low, relink-followed, b-dart, further, relink-kept, relink-known, relink-joined, count-kept, count-known, count-joined}
 use Rattle.kernels.proofs.removing.relink.Statement.{statement}
 use Rattle.kernels.proofs.removing.relink.Tie as tie
 
 abbrev Inv-loop : tie.InvT-loop
-Inv-loop lambda delta next table₀ n darts l links₀ d₀ table links d =
-    RelinkTo (n .0) darts (kernelRow lambda delta (l .0)) table₀ table d × (links ≡ linksTo (n .0) darts (kernelRow lambda delta (l .0)) table₀ d)
+Inv-loop lambda delta next table₀ n darts l turns₀ d₀ table turns d =
+    RelinkTo (n .0) darts (kernelRow lambda delta (l .0)) table₀ table d × (turns ≡ turnsTo (n .0) darts (kernelRow lambda delta (l .0)) table₀ d)
 
 abbrev μ-loop : tie.MeasureT-loop
-μ-loop lambda delta next table₀ n darts l links₀ d₀ table links d = darts - d
+μ-loop lambda delta next table₀ n darts l turns₀ d₀ table turns d = darts - d
 
 -- the entry, from the head of the loop; and the turn, from where its dart leads
 abbrev start : tie.At-loop Inv-loop μ-loop → tie.Start Inv-loop μ-loop
@@ -65,7 +65,7 @@ cast-d : tie.Need-cast-d Inv-loop μ-loop
 cast-d c = search needs
 
 loop-holds : tie.Need-loop-holds Inv-loop μ-loop
-loop-holds c = let p = c .before .before .before .before .before .before .before .pre in (relink-start (p .0) (p .1 .string), sym (links-start _ _ _ _ (p .1 .string)))
+loop-holds c = let p = c .before .before .before .before .before .before .before .pre in (relink-start (p .0) (p .1 .string), sym (turns-start _ _ _ _ (p .1 .string)))
 
 mark-of-requires : tie.Need-mark-of-requires Inv-loop μ-loop
 mark-of-requires c κs = omega (arith, start (c .before) .pre .1 .marks .delta-long)
@@ -103,14 +103,16 @@ follow-requires c κs =
     ((p .1 .marks, relink-followed (p .0) (p .1 .string) v ld f), (dart t .1, ld, here, ap (λ (m : ℕ). between m .0) (sym (turn t .mark-of .ensures)) ∙ same))
 
 join-requires : tie.Need-join-requires Inv-loop μ-loop
-join-requires c κs = let t = asked (c .before .before) in (place-of t _ (dart t .0), place-of t _ (c .before .follow .ensures .1))
+join-requires c κs = let t = asked (c .before .before) in (place-of t _ (dart t .0), place-of t _ (c .before .follow .ensures .0 .1))
 
-add-links : tie.Need-add-links Inv-loop μ-loop
-add-links c =
-    let i = turn (asked (c .before .before .before .before .before)) .before in
+add-turns : tie.Need-add-turns Inv-loop μ-loop
+add-turns c =
+    let z : tie.After-follow Inv-loop μ-loop = c .before .before .before .before .before in
+    let i = turn (asked (z .before)) .before in
     let l = i .before .loop in
     let a = start (i .before) .args in
-    let few = links-few (a .kernel .n .0) (a .kernel .darts) (kernelRow (now (a .lambda)) (now (a .delta)) (a .kernel .level .0)) (now (a .table)) (l .d) in
+    let few = turns-few (a .kernel .n .0) (a .kernel .darts) (kernelRow (now (a .lambda)) (now (a .delta)) (a .kernel .level .0)) (now (a .table)) (l .d) (start (i .before) .pre .0 .tested .shape .darts) in
+    let these : z .follow .result .turns ≤ a .kernel .darts = rw (z .follow .ensures .1) (turns-fit _ _ _ _ _ _) in
     omega (arith, l .inv .1, i .loop-test .taken, start (i .before) .pre .0 .tested .shape .darts)
 
 next-of-requires : tie.Need-next-of-requires Inv-loop μ-loop
@@ -138,8 +140,8 @@ loop-again c =
     (λ w.
     let stays = sym b ∙ sym known ∙ not-true _ (w .0 .taken) in
     let leads = sym (w .2 .ensures) ∙ w .3 .taken in (
-      rw (w .10, w .7 .ensures) (relink-joined (p .0) (p .1 .string) v ld f (t .at .ensures) (c .next-of .ensures) stays (w .5 .ensures .0)),
-      rw (w .11) (omega (arith, q, count-joined (p .0) (p .1 .string) v ld f (t .at .ensures) (c .next-of .ensures) stays leads)),
+      rw (w .11, w .7 .ensures) (relink-joined (p .0) (p .1 .string) v ld f (t .at .ensures) (c .next-of .ensures) stays (w .5 .ensures .0 .0)),
+      rw (w .12) (omega (arith, q, w .5 .ensures .1, count-joined (p .0) (p .1 .string) v ld f (t .at .ensures) (c .next-of .ensures) stays leads)),
     ))
     (⊎-elim
     (λ w.
@@ -161,7 +163,7 @@ returns : tie.Need-returns Inv-loop μ-loop
 returns c =
     let p = start (c .before) .pre in
     let l = c .before .loop in
-    (l .inv .1 ∙ links-all _ _ _ _ (l .d) (c .loop-test .left), relink-all (p .0) (p .1 .string) (l .inv .0) (c .loop-test .left))
+    (l .inv .1 ∙ turns-all _ _ _ _ (l .d) (c .loop-test .left), relink-all (p .0) (p .1 .string) (l .inv .0) (c .loop-test .left))
 
 pub relink-spec : {M : Type 1} → statement M
 relink-spec =
@@ -179,7 +181,7 @@ relink-spec =
     at-requires-2
     follow-requires
     join-requires
-    add-links
+    add-turns
     next-of-requires
     loop-less
     loop-again

@@ -16,7 +16,7 @@ use Rattle.kernels.proofs.testing.whole.Statement.{statement}
 use Rattle.kernels.proofs.testing.whole.Tie as tie
 
 abbrev Inv-loop : tie.InvT-loop
-Inv-loop kernel lambda delta next table n darts l found₀ d marked j₀ j-end found j = (j ≤ n .0 + 1) × (scan j (at9 (entry darts table) (n .0) darts (kernelRow lambda delta (l .0)) (l .0) d) ≡ accepted) × (found ≡ Accepted)
+Inv-loop kernel lambda delta next table n darts l found₀ d marked j₀ j-end found j = (j ≤ n .0 + 1) × (scan j (at9 (entry darts table) (n .0) (kernelRow lambda delta (l .0)) (l .0) d) ≡ accepted) × (found ≡ Accepted)
 
 abbrev μ-loop : tie.MeasureT-loop
 μ-loop kernel lambda delta next table n darts l found₀ d marked j₀ j-end found j = j-end - j

@@ -9,6 +9,7 @@ use Rattle.maps.specs.Table.{entry}
 use borrow.Author.Needs.{needs}
 use Rattle.laws.proofs.Tables.{in-table, table-size}
 use Rattle.answers.specs.declared.Level.{Level}
+use Rattle.answers.specs.Pyramid.{pyramid, lent}
 use Rattle.reading.specs.declared.filling.Stop.the-variants.{Nowhere}
 use Rattle.reading.proofs.Walking.{Next, next-first, strays, arrives, arrived}
 use Rattle.reading.proofs.Filled.{Filled, filled-none, filled-row, filled-all, filled-absent, filled-end, filled-missed}
@@ -16,13 +17,13 @@ use Rattle.reading.proofs.filling.fill.Statement.{statement}
 use Rattle.reading.proofs.filling.fill.Tie as tie
 
 abbrev Inv-loop : tie.InvT-loop
-Inv-loop sizes rows lambda delta level table₀ darts stop₀ total₀ since₀ i d₀ i-end table stop total since d = (d ≤ darts) × (i < i-end) × Filled (sizes .n .0) (sizes .darts) (sizes .h .0) rows lambda delta (level .0) i d total (since .0) table × (stop ≡ Nowhere)
+Inv-loop sizes rows lambda delta level table₀ darts stop₀ total₀ since₀ i d₀ i-end table stop total since d = (d ≤ darts) × (i < i-end) × Filled (pyramid sizes rows lambda delta) (level .0) i d total (since .0) table × (stop ≡ Nowhere)
 
 abbrev μ-loop : tie.MeasureT-loop
 μ-loop sizes rows lambda delta level table₀ darts stop₀ total₀ since₀ i d₀ i-end table stop total since d = darts - d
 
 abbrev Inv-rows : tie.InvT-rows
-Inv-rows sizes rows lambda delta level table₀ darts stop₀ total₀ since₀ i₀ i-end table stop total since i = (i ≤ i-end) × Filled (sizes .n .0) (sizes .darts) (sizes .h .0) rows lambda delta (level .0) i 0 total (since .0) table × (stop ≡ Nowhere)
+Inv-rows sizes rows lambda delta level table₀ darts stop₀ total₀ since₀ i₀ i-end table stop total since i = (i ≤ i-end) × Filled (pyramid sizes rows lambda delta) (level .0) i 0 total (since .0) table × (stop ≡ Nowhere)
 
 abbrev μ-rows : tie.MeasureT-rows
 μ-rows sizes rows lambda delta level table₀ darts stop₀ total₀ since₀ i₀ i-end table stop total since i = i-end - i
@@ -54,16 +55,16 @@ place c =
 
 -- the walk of the dart by the row begins
 first : (c : tie.In-loop Inv-loop μ-loop Inv-rows μ-rows) → let a = start c .args in let i = c .before .before .before .rows .i in let d = c .before .loop .d in
-    Next (now (a .rows)) (now (a .lambda)) (now (a .delta)) (a .sizes .n .0) (a .sizes .darts) (a .sizes .h .0) (a .level .0) i d i d 0 0
+    Next (lent (a .sizes) (a .rows) (a .lambda) (a .delta)) (a .level .0) i d i d 0 0
 first c =
     let a = start c .args in
-    next-first (now (a .rows)) (now (a .lambda)) (now (a .delta)) (a .sizes .n .0) (a .sizes .darts) (a .sizes .h .0) (a .level .0) (c .before .before .before .rows .i) (c .before .loop .d) (place c .0) (c .loop-test .taken)
+    next-first (lent (a .sizes) (a .rows) (a .lambda) (a .delta)) (a .level .0) (c .before .before .before .rows .i) (c .before .loop .d) (place c .0) (c .loop-test .taken)
 
 add-i-end : tie.Need-add-i-end Inv-loop μ-loop Inv-rows μ-rows
 add-i-end c = search needs
 
 rows-holds : tie.Need-rows-holds Inv-loop μ-loop Inv-rows μ-rows
-rows-holds c = let a = c .before .before .before .before .before .before .args in (zero-le, filled-none (a .sizes .n .0) (a .sizes .darts) (a .sizes .h .0) (now (a .rows)) (now (a .lambda)) (now (a .delta)) (a .level .0) (c .before .before .before .before .before .before .pre .1), refl)
+rows-holds c = let a = c .before .before .before .before .before .before .args in (zero-le, filled-none (lent (a .sizes) (a .rows) (a .lambda) (a .delta)) (a .level .0) (c .before .before .before .before .before .before .pre .1), refl)
 
 loop-holds : tie.Need-loop-holds Inv-loop μ-loop Inv-rows μ-rows
 loop-holds c = let v = c .before .rows .inv in (zero-le, c .rows-test .taken, v .1, v .2)

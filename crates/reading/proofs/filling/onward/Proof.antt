@@ -6,7 +6,10 @@ use denote.Ref.{now}
 use borrow.Author.Needs.{needs}
 use Rattle.maps.specs.Table.{each}
 use Rattle.answers.specs.declared.Onward.the-variants.{By}
+use Rattle.answers.specs.declared.Dim.{Dim}
+use Rattle.answers.specs.declared.Level.{Level}
 use Rattle.answers.specs.Marked.{Goes}
+use Rattle.answers.specs.Pyramid.{pyramid, lent}
 use Rattle.answers.proofs.Marked.{goes-told}
 use Rattle.reading.specs.Walks.{Allowed, Meets}
 use Rattle.reading.proofs.Walking.{entry-fits, Next, strays, arrives, arrived, Met, met-first, met-mark, met-no-pass, met-long, met-passes}
@@ -16,7 +19,7 @@ use Rattle.reading.proofs.filling.onward.Tie as tie
 -- n and h are no locals of the loop, so it holds for any
 abbrev Inv-loop : tie.InvT-loop
 Inv-loop rows lambda delta asked met darts most level involution t₀ from₀ count₀ largest₀ t from count largest =
-    (largest < asked .level .0) × ((n h : ℕ) → Allowed n darts h rows lambda delta (asked .level .0) → Meets darts rows lambda (asked .level .0) n (asked .involution .0) (asked .dart) met → Met rows lambda delta n darts h (asked .level .0) (asked .involution .0) (asked .dart) (t .0) from count (largest + 1))
+    (largest < asked .level .0) × ((n : Dim) (h : Level) → let f = pyramid record { n = n; h = h; darts = darts } rows lambda delta in Allowed f (asked .level .0) → Meets f (asked .level .0) (asked .involution .0) (asked .dart) met → Met f (asked .level .0) (asked .involution .0) (asked .dart) (t .0) from count (largest + 1))
 
 abbrev μ-loop : tie.MeasureT-loop
 μ-loop rows lambda delta asked met darts most level involution t₀ from₀ count₀ largest₀ t from count largest = 1 + 2 * darts - count
@@ -26,8 +29,8 @@ abbrev start : tie.At-loop Inv-loop μ-loop → tie.Start Inv-loop μ-loop
 start c = c .before .before .before .before .before .before .before
 
 -- the dart met
-met-here : (c : tie.At-loop Inv-loop μ-loop) → let a = start c .args in Met (now (a .rows)) (now (a .lambda)) (now (a .delta)) (a .sizes .n .0) (a .sizes .darts) (a .sizes .h .0) (a .asked .level .0) (a .asked .involution .0) (a .asked .dart) (c .loop .t .0) (c .loop .from) (c .loop .count) (c .loop .largest + 1)
-met-here c = let a = start c .args in c .loop .inv .1 (a .sizes .n .0) (a .sizes .h .0) (start c .pre .0) (start c .pre .1)
+met-here : (c : tie.At-loop Inv-loop μ-loop) → let a = start c .args in Met (lent (a .sizes) (a .rows) (a .lambda) (a .delta)) (a .asked .level .0) (a .asked .involution .0) (a .asked .dart) (c .loop .t .0) (c .loop .from) (c .loop .count) (c .loop .largest + 1)
+met-here c = let a = start c .args in c .loop .inv .1 (a .sizes .n) (a .sizes .h) (start c .pre .0) (start c .pre .1)
 
 -- how the walk goes on
 goes : (c : tie.After-across Inv-loop μ-loop) → let b = c .before .before .before .before in Goes (each (now (start b .args .delta)) (b .loop .from)) (b .loop .t .0) (By (c .across .given .0 .0))
@@ -42,14 +45,13 @@ abbrev row : tie.Else1 Inv-loop μ-loop → ℕ
 row c = c .before .before .across .given .0 .0 .0
 
 -- the dart met is passed, and the row on the other side is read next
-next : (c : tie.Else1 Inv-loop μ-loop) (n h : ℕ) → let b = turn c in let a = start b .args in
-    Allowed n (a .sizes .darts) h (now (a .rows)) (now (a .lambda)) (now (a .delta)) (a .asked .level .0) → Meets (a .sizes .darts) (now (a .rows)) (now (a .lambda)) (a .asked .level .0) n (a .asked .involution .0) (a .asked .dart) (a .met)
-    → Next (now (a .rows)) (now (a .lambda)) (now (a .delta)) n (a .sizes .darts) h (a .asked .level .0) (a .asked .involution .0) (a .asked .dart) (row c) (b .loop .from) (b .loop .count) (b .loop .largest + 1)
+next : (c : tie.Else1 Inv-loop μ-loop) (n : Dim) (h : Level) → let b = turn c in let a = start b .args in let f = lent record { n = n; h = h; darts = a .sizes .darts } (a .rows) (a .lambda) (a .delta) in
+    Allowed f (a .asked .level .0) → Meets f (a .asked .level .0) (a .asked .involution .0) (a .asked .dart) (a .met) → Next f (a .asked .level .0) (a .asked .involution .0) (a .asked .dart) (row c) (b .loop .from) (b .loop .count) (b .loop .largest + 1)
 next c n h p m = let g = goes (c .before .before) in met-passes p (turn c .loop .inv .1 n h p m) (g .0) (c .if1 .left) (g .1)
 
 next-here : (c : tie.Else1 Inv-loop μ-loop) → let b = turn c in let a = start b .args in
-    Next (now (a .rows)) (now (a .lambda)) (now (a .delta)) (a .sizes .n .0) (a .sizes .darts) (a .sizes .h .0) (a .asked .level .0) (a .asked .involution .0) (a .asked .dart) (row c) (b .loop .from) (b .loop .count) (b .loop .largest + 1)
-next-here c = let b = turn c in next c (start b .args .sizes .n .0) (start b .args .sizes .h .0) (start b .pre .0) (start b .pre .1)
+    Next (lent (a .sizes) (a .rows) (a .lambda) (a .delta)) (a .asked .level .0) (a .asked .involution .0) (a .asked .dart) (row c) (b .loop .from) (b .loop .count) (b .loop .largest + 1)
+next-here c = let b = turn c in next c (start b .args .sizes .n) (start b .args .sizes .h) (start b .pre .0) (start b .pre .1)
 
 cast-most : tie.Need-cast-most Inv-loop μ-loop
 cast-most c = omega (arith, c .before .before .before .pre .0 .lent .darts)
@@ -67,7 +69,7 @@ cast-largest : tie.Need-cast-largest Inv-loop μ-loop
 cast-largest c = search needs
 
 loop-holds : tie.Need-loop-holds Inv-loop μ-loop
-loop-holds c = (c .before .before .before .before .before .before .pre .1 .gone, λ n h p m. met-first (now (c .before .before .before .before .before .before .args .delta)) h m)
+loop-holds c = (c .before .before .before .before .before .before .pre .1 .gone, λ n h p m. met-first m)
 
 shared-slice-read-own : tie.Need-shared-slice-read-own Inv-loop μ-loop
 shared-slice-read-own c = omega (arith, met-here (c .before) .meets .dart, start (c .before) .pre .0 .lent .delta-length)

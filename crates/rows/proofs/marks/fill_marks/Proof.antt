@@ -24,7 +24,7 @@ loop-again c =
     let a = c .before .before .before .before .before .before .before .before .args in
     let l = c .before .before .before .before .loop in
     let f = marks (a .h .0) (each (now (a .lambda))) (each (now (a .delta))) (a .level .0) in
-    (refl, omega arith, simp length-set (l .inv .2), set-below f (l .out) (l .d) (c .mark-at .result .0) (omega arith) (l .inv .3) (c .mark-at .ensures))
+    (refl, omega arith, simp length-set (l .inv .2), set-below f (l .out) (l .d) (c .mark-at .result .0) (omega arith) (l .inv .3) (rw (c .before .before .lambda-at .ensures, c .before .delta-at .ensures) at (c .mark-at .ensures)))
 
 returns : tie.Need-returns Inv-loop μ-loop
 returns c =
@@ -39,8 +39,8 @@ fill-marks-spec =
     Inv-loop
     μ-loop
     (λ c. (refl, zero-le, refl, below-none _))
-    (λ c. search needs)
-    (λ c. search needs)
+    (λ c κs. search needs)
+    (λ c κs. search needs)
     (λ c κs. search needs)
     (λ c. search needs)
     (λ c. search needs)

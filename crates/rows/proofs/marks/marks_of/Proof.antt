@@ -7,7 +7,7 @@ use denote.Ref.{now}
 use borrow.Author.Needs.{needs}
 use borrow.Author.Tests.{eqb-true}
 use Rattle.maps.specs.Verdict.{Verdict, _then_, scan}
-use Rattle.maps.specs.Table.{listed}
+use Rattle.maps.specs.Table.{listed, each}
 use Rattle.maps.specs.Sizes.{number11, hasLength}
 use Rattle.maps.specs.MarksBack.{atMarks8, marksLent, marksLeaves}
 use Rattle.laws.proofs.Verdicts.{then-accepted}
@@ -27,12 +27,12 @@ start s = s .before .before .before .before .before .before .before .before .bef
 
 -- the job's verdict, and the scan of all darts
 abbrev lent : tie.After-asked → Verdict
-lent s = let a = start s .args in marksLent (a .n .0) (a .darts) (a .h .0) (now (a .lambda)) (now (a .delta)) (a .level .0) (now (a .out))
+lent s = let a = start s .args in marksLent (a .sizes .n .0) (a .sizes .darts) (a .sizes .h .0) (now (a .lambda)) (now (a .delta)) (a .level .0) (now (a .out))
 
 abbrev scanned : tie.After-asked → Verdict
-scanned s = let a = start s .args in scan (a .darts) (atMarks8 (a .n .0) (a .darts) (a .h .0) (now (a .lambda)) (now (a .delta)) (a .level .0) [])
+scanned s = let a = start s .args in scan (a .sizes .darts) (atMarks8 (a .sizes .n .0) (a .sizes .h .0) (each (now (a .lambda))) (each (now (a .delta))) (a .level .0))
 
-fit : (s : tie.After-asked) → let a = start s .args in s .before .both2 .result ≡ (hasLength (now (a .lambda)) (a .darts) && (hasLength (now (a .delta)) (a .darts) && hasLength (now (a .out)) (a .darts)))
+fit : (s : tie.After-asked) → let a = start s .args in s .before .both2 .result ≡ (hasLength (now (a .lambda)) (a .sizes .darts) && (hasLength (now (a .delta)) (a .sizes .darts) && hasLength (now (a .out)) (a .sizes .darts)))
 fit s =
     let f = s .before .before .before .before .before .row-fits .ensures in
     let g = s .before .before .before .before .row-fits2 .ensures in
@@ -42,18 +42,18 @@ fit s =
 by-asked : (s : tie.After-asked) (is : Check) → s .asked .result ≡ is → lent s ≡ verdictOf is then scanned s
 by-asked s is e =
     let a = start s .args in
-    marks-lent (a .n .0) (a .darts) (a .h .0) (now (a .lambda)) (now (a .delta)) (a .level .0) (now (a .out)) ∙ rw (← (fit s), ← (told (s .asked .ensures) e))
+    marks-lent (a .sizes .n .0) (a .sizes .darts) (a .sizes .h .0) (now (a .lambda)) (now (a .delta)) (a .level .0) (now (a .out)) ∙ rw (← (fit s), ← (told (s .asked .ensures) e))
 
 -- the lengths, where it accepts
-lengths : (c : tie.After-enum-told) → let a = start (c .before .before) .args in (length (now (a .lambda)) ≡ a .darts) × (length (now (a .delta)) ≡ a .darts) × (length (now (a .out)) ≡ a .darts)
+lengths : (c : tie.After-enum-told) → let a = start (c .before .before) .args in (length (now (a .lambda)) ≡ a .sizes .darts) × (length (now (a .delta)) ≡ a .sizes .darts) × (length (now (a .out)) ≡ a .sizes .darts)
 lengths c =
     let s = c .before .before in
     let a = start s .args in
     let x = s .before .both2 .result in
-    let p = then-accepted (lentOf (a .n .0) (a .darts) (a .h .0) x) (number11 (a .h .0) (a .level .0) 0 0) (sym (told (s .asked .ensures) (c .enum-told .given .1))) in
-    let q = both-equal (length (now (a .lambda))) (a .darts) (hasLength (now (a .delta)) (a .darts) && hasLength (now (a .out)) (a .darts)) (sym (fit s) ∙ lent-sized (a .n .0) (a .darts) (a .h .0) x (p .0) .1) in
-    let r = both-equal (length (now (a .delta))) (a .darts) (hasLength (now (a .out)) (a .darts)) (q .1) in
-    (q .0, r .0, eqb-true (length (now (a .out))) (a .darts) (r .1))
+    let p = then-accepted (lentOf (a .sizes .n .0) (a .sizes .darts) (a .sizes .h .0) x) (number11 (a .sizes .h .0) (a .level .0) 0 0) (sym (told (s .asked .ensures) (c .enum-told .given .1))) in
+    let q = both-equal (length (now (a .lambda))) (a .sizes .darts) (hasLength (now (a .delta)) (a .sizes .darts) && hasLength (now (a .out)) (a .sizes .darts)) (sym (fit s) ∙ lent-sized (a .sizes .n .0) (a .sizes .darts) (a .sizes .h .0) x (p .0) .1) in
+    let r = both-equal (length (now (a .delta))) (a .sizes .darts) (hasLength (now (a .out)) (a .sizes .darts)) (q .1) in
+    (q .0, r .0, eqb-true (length (now (a .out))) (a .sizes .darts) (r .1))
 
 -- the verdict, by what `marks_refusal` told
 by-marks : (m : tie.After-marks-refusal) (is : Check) → m .marks-refusal .result ≡ is → verdictOf is ≡ lent (m .before .before .before)
@@ -61,7 +61,7 @@ by-marks m is e =
     let s = m .before .before .before in
     let a = start s .args in
     let r = lengths (m .before) in
-    told (m .marks-refusal .ensures) e ∙ marks-decide (a .n .0) (a .darts) (a .h .0) (now (a .lambda)) (now (a .delta)) (a .level .0) (r .0) (r .1) ∙ sym (by-asked s _ (m .before .enum-told .given .1))
+    told (m .marks-refusal .ensures) e ∙ marks-decide (a .sizes .n .0) (a .sizes .darts) (a .sizes .h .0) (now (a .lambda)) (now (a .delta)) (a .level .0) (r .0) (r .1) ∙ sym (by-asked s _ (m .before .enum-told .given .1))
 
 returns : tie.Need-returns
 unfolding marksLeaves

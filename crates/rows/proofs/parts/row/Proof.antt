@@ -17,28 +17,28 @@ use Rattle.rows.proofs.parts.row.Statement.{statement}
 use Rattle.rows.proofs.parts.row.Tie as tie
 
 -- where the row is accepted, it lies within both tables
-within : (c : tie.After-enum-told2) → let a = c .before .before .before .before .before .args in Within (a .n .0) (a .darts) (a .h .0) (now (a .base)) (now (a .unfolded)) (a .level .0) (a .involution .0)
+within : (c : tie.After-enum-told2) → let a = c .before .before .before .before .before .args in Within (a .sizes .n .0) (a .sizes .darts) (a .sizes .h .0) (now (a .base)) (now (a .unfolded)) (a .level .0) (a .involution .0)
 within c =
     let a = c .before .before .before .before .before .args in
-    row-within (a .n .0) (a .darts) (a .h .0) (now (a .base)) (now (a .unfolded)) (a .level .0) (a .involution .0) (sym (told (c .before .before .row-refusal .ensures) (c .enum-told2 .given .1)))
+    row-within (a .sizes .n .0) (a .sizes .darts) (a .sizes .h .0) (now (a .base)) (now (a .unfolded)) (a .level .0) (a .involution .0) (sym (told (c .before .before .row-refusal .ensures) (c .enum-told2 .given .1)))
 
 returns : tie.Need-returns
 unfolding rowPart
 returns c =
     let a = c .before .before .before .before .before .before .args in
     let r = c .before .enum-told .given in
-    refusal-keeps (r .0 .0) (rowLent (a .n .0) (a .darts) (a .h .0) (now (a .base)) (now (a .unfolded)) (a .level .0) (a .involution .0)) (take (a .darts) (drop (a .involution .0 * a .darts) (cond (eqb (a .level .0) 0) (now (a .base)) (now (a .unfolded))))) [] (told (c .before .before .before .row-refusal .ensures) (r .1))
+    refusal-keeps (r .0 .0) (rowLent (a .sizes .n .0) (a .sizes .darts) (a .sizes .h .0) (now (a .base)) (now (a .unfolded)) (a .level .0) (a .involution .0)) (take (a .sizes .darts) (drop (a .involution .0 * a .sizes .darts) (cond (eqb (a .level .0) 0) (now (a .base)) (now (a .unfolded))))) [] (told (c .before .before .before .row-refusal .ensures) (r .1))
 
 returns-2 : tie.Need-returns-2
 unfolding rowPart
 returns-2 c =
-    let m = c .before .before .before in
+    let m = c .before .before .before .before in
     rw (← (told (m .before .before .row-refusal .ensures) (m .enum-told2 .given .1))) (simp (eq-eqb _ _ (c .before .if1 .taken), add-sub-cancel-left))
 
 returns-3 : tie.Need-returns-3
 unfolding rowPart
 returns-3 c =
-    let m = c .before .before .before in
+    let m = c .before .before .before .before in
     rw (← (told (m .before .before .row-refusal .ensures) (m .enum-told2 .given .1))) (simp (ne-eqb _ _ (c .before .if1 .left), add-sub-cancel-left))
 
 pub row-spec : {M : Type 1} → statement M
@@ -52,16 +52,17 @@ row-spec =
     (λ c. search needs)
     (λ c. search needs)
     (λ c. search needs)
-    (λ c. omega (arith, within c))
-    (λ c. omega (arith, within c))
-    (λ c. omega (arith, within (c .before .before)))
+    (λ c. search needs)
+    (λ c. omega (arith, within (c .before)))
+    (λ c. omega (arith, within (c .before)))
+    (λ c. omega (arith, within (c .before .before .before)))
     (λ c. search needs)
     (λ c. search needs)
-    (λ c. omega (arith, within (c .before .before)))
-    (λ c. omega (arith, within (c .before .before)))
+    (λ c. omega (arith, within (c .before .before .before)))
+    (λ c. omega (arith, within (c .before .before .before)))
     (λ c. search needs)
     (λ c. search needs)
-    (λ c. omega (arith, within (c .before .before)))
+    (λ c. omega (arith, within (c .before .before .before)))
     returns
     returns-2
     returns-3)

@@ -20,14 +20,14 @@ start s = s .before .before .before .before .before .before
 
 -- the verdict, by what `asked` told
 by-asked : (s : tie.After-asked) (is : Check) → s .asked .result ≡ is
-    → let a = start s .args in rowLent (a .n .0) (a .darts) (a .h .0) (now (a .base)) (now (a .unfolded)) (a .level .0) (a .involution .0) ≡ verdictOf is then number13 (a .n .0) (a .level .0) (a .involution .0) 0
+    → let a = start s .args in rowLent (a .sizes .n .0) (a .sizes .darts) (a .sizes .h .0) (now (a .base)) (now (a .unfolded)) (a .level .0) (a .involution .0) ≡ verdictOf is then number13 (a .sizes .n .0) (a .level .0) (a .involution .0) 0
 by-asked s is e =
     let a = start s .args in
     let b = s .before .both .ensures in
     let f = s .before .before .before .rows-fit .ensures in
     let g = s .before .before .rows-fit2 .ensures in
     let t = told (s .asked .ensures) e in
-    row-lent (a .n .0) (a .darts) (a .h .0) (now (a .base)) (now (a .unfolded)) (a .level .0) (a .involution .0) ∙ rw (← f, ← g, ← b, ← t)
+    row-lent (a .sizes .n .0) (a .sizes .darts) (a .sizes .h .0) (now (a .base)) (now (a .unfolded)) (a .level .0) (a .involution .0) ∙ rw (← f, ← g, ← b, ← t)
 
 returns : tie.Need-returns
 returns c =
@@ -39,14 +39,14 @@ returns-2 : tie.Need-returns-2
 unfolding number13
 returns-2 c =
     let m = c .before .before .before in
-    let t = lt-ltb (start (m .before .before) .args .n .0) (start (m .before .before) .args .involution .0) (omega arith) in
+    let t = lt-ltb (start (m .before .before) .args .sizes .n .0) (start (m .before .before) .args .involution .0) (omega arith) in
     sym (by-asked (m .before .before) _ (m .enum-told .given .1) ∙ rw t)
 
 returns-3 : tie.Need-returns-3
 unfolding number13
 returns-3 c =
     let m = c .before .before .before in
-    let t = le-ltb (start (m .before .before) .args .n .0) (start (m .before .before) .args .involution .0) (omega arith) in
+    let t = le-ltb (start (m .before .before) .args .sizes .n .0) (start (m .before .before) .args .involution .0) (omega arith) in
     sym (by-asked (m .before .before) _ (m .enum-told .given .1) ∙ rw t)
 
 pub row-refusal-spec : {M : Type 1} → statement M

@@ -9,6 +9,7 @@ use lib.ListN.{length, getD, length-set}
 use denote.Ref.{now}
 use borrow.Author.Count.{below-none}
 use borrow.Author.Needs.{needs}
+use Rattle.maps.specs.Table.{each}
 use Rattle.maps.specs.Count.{sum}
 use Rattle.maps.specs.Survivors.{word}
 use Rattle.laws.proofs.Tables.{listed-of, set-below}
@@ -18,8 +19,8 @@ use Rattle.rows.proofs.words.fill_words.Tie as tie
 
 abbrev Inv-loop : tie.InvT-loop
 Inv-loop lambda level words₀ count₀ w₀ words count w =
-    (w ≤ 64) × (length words ≡ 64) × ((k : ℕ) → k < w → getD words k 0 ≡ word (length lambda) 0 lambda (level .0) [] k)
-    × (count ≡ sum (λ k. ones (word (length lambda) 0 lambda (level .0) [] k)) w) × (count ≤ 64 * w)
+    (w ≤ 64) × (length words ≡ 64) × ((k : ℕ) → k < w → getD words k 0 ≡ word (length lambda) (each lambda) (level .0) k)
+    × (count ≡ sum (λ k. ones (word (length lambda) (each lambda) (level .0) k)) w) × (count ≤ 64 * w)
 
 abbrev μ-loop : tie.MeasureT-loop
 μ-loop lambda level words₀ count₀ w₀ words count w = 64 - w
@@ -38,14 +39,14 @@ unfolding sum
 loop-again c =
     let a = c .before .before .before .before .before .args in
     let l = c .before .before .loop in
-    let f = word (length (now (a .lambda))) 0 (now (a .lambda)) (a .level .0) [] in
+    let f = word (length (now (a .lambda))) (each (now (a .lambda))) (a .level .0) in
     (omega arith, simp length-set (l .inv .1), set-below f (l .words) (l .w) (c .word .result) (omega arith) (l .inv .2) (c .word .ensures), rw add-one (omega (arith, ap ones (c .word .ensures))), omega (arith, few c))
 
 returns : tie.Need-returns Inv-loop μ-loop
 returns c =
     let a = c .before .before .before .before .args in
     let l = c .before .loop in
-    let f = word (length (now (a .lambda))) 0 (now (a .lambda)) (a .level .0) [] in
+    let f = word (length (now (a .lambda))) (each (now (a .lambda))) (a .level .0) in
     let e : l .w ≡ 64 = omega arith in
     (l .inv .3 ∙ ap (sum (λ k. ones (f k))) e, listed-of f 64 (l .words) (l .inv .1) (λ k lt. l .inv .2 k (omega arith)))
 

@@ -15,7 +15,7 @@ returns : tie.Need-returns
 unfolding atLambda8
 returns c =
     let a = c .before .before .before .before .before .args in
-    sym (scan-all (a .darts) (atLambda8 (a .darts) (a .h .0) (now (a .lambda)) (a .level .0) []) (λ d f. rw (le-ltb (a .h .0) (each (now (a .lambda)) d) (omega (arith, c .before .before .before .largest .ensures d (omega arith))))))
+    sym (scan-all (a .darts) (atLambda8 (a .h .0) (each (now (a .lambda))) (a .level .0)) (λ d f. rw (le-ltb (a .h .0) (each (now (a .lambda)) d) (omega (arith, c .before .before .before .largest .ensures d (omega arith))))))
 
 pub lambda-tested-spec : {M : Type 1} → statement M
 lambda-tested-spec = tie.close (tie.spec (λ c κs. search needs) returns (λ c κs. search needs) (λ c. search needs))

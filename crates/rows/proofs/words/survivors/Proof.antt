@@ -11,7 +11,7 @@ use borrow.Author.Needs.{needs}
 use borrow.Author.Tests.{eqb-true}
 use Rattle.maps.specs.Verdict.{Verdict, _then_, scan}
 use Rattle.maps.specs.Count.{sum}
-use Rattle.maps.specs.Table.{listed}
+use Rattle.maps.specs.Table.{listed, each}
 use Rattle.maps.specs.Sizes.{number11, hasLength}
 use Rattle.maps.specs.Survivors.{atLambda8, word, survivorsLent, survivorWords, survivorCount}
 use Rattle.laws.proofs.Verdicts.{then-accepted}
@@ -33,7 +33,7 @@ abbrev lent : tie.After-asked → Verdict
 lent s = let a = start s .args in survivorsLent (a .darts) (a .h .0) (now (a .lambda)) (a .level .0) (now (a .words))
 
 abbrev scanned : tie.After-asked → Verdict
-scanned s = let a = start s .args in scan (a .darts) (atLambda8 (a .darts) (a .h .0) (now (a .lambda)) (a .level .0) [])
+scanned s = let a = start s .args in scan (a .darts) (atLambda8 (a .h .0) (each (now (a .lambda))) (a .level .0))
 
 fit : (s : tie.After-asked) → let a = start s .args in s .before .both .result ≡ (hasLength (now (a .lambda)) (a .darts) && hasLength (now (a .words)) 64)
 fit s = s .before .both .ensures ∙ ap₂ _&&_ (s .before .before .row-fits .ensures) refl
@@ -86,8 +86,8 @@ returns-3 c =
     let n = lengths (m .before) .0 in (
       e,
       (
-        rw (← e) (f .0 ∙ ap (λ (N : ℕ). sum (λ w. ones (word N 0 (now (a .lambda)) (a .level .0) [] w)) 64) n),
-        rw (← e) (f .1 ∙ ap (λ (N : ℕ). listed (word N 0 (now (a .lambda)) (a .level .0) []) 64) n),
+        rw (← e) (f .0 ∙ ap (λ (N : ℕ). sum (λ w. ones (word N (each (now (a .lambda))) (a .level .0) w)) 64) n),
+        rw (← e) (f .1 ∙ ap (λ (N : ℕ). listed (word N (each (now (a .lambda))) (a .level .0)) 64) n),
       ),
     )
 

@@ -1,0 +1,5 @@
+-- What other crates may cite of orbits: joined, turned round and in a closed set; that nothing is reached before a search; and the choice of every row. Assumes nothing.
+pub use Rattle.orbits.proofs.Orbits.{orbit-join, closed-orbit, orbit-present, orbit-back}
+pub use Rattle.orbits.proofs.Sets.{none-has, none-room}
+pub use Rattle.orbits.proofs.Decided.{none}
+pub use Rattle.orbits.proofs.Choices.{all-rows}
