@@ -231,6 +231,12 @@ void run_partner(unsigned m)
     spoil_partner(m);
 }
 
+void run_witnesses()
+{
+    for (const dear::Witness& w : dear::witnesses())
+        run_all(w.name, w.pyramid);
+}
+
 // Jobs are drawn alike. The programs among them are left out: what they do is in the jobs that they call.
 void run_random(std::uint64_t seed, unsigned long cases_a_job)
 {
@@ -257,11 +263,12 @@ int main(int argc, char** argv)
     run_version();
     run_bench("bench", {"grid2", "grid3", "path32", "grid4", "strip", "voxels", "cycle", "vertex"});
     run_bench("contraction", {"both1", "both2", "both3", "both4"});
-    for (const unsigned darts : {2u, 64u, 4096u}) {
+    for (const unsigned darts : {2u, 64u, dear::most_darts}) {
         for (unsigned n = 1; n <= 4; n++)
             run_rings(n, darts);
         run_paths(darts);
         run_partner(darts / 2);
     }
+    run_witnesses();
     run_random(std::strtoull(argv[1], nullptr, 10), std::strtoul(argv[2], nullptr, 10));
 }

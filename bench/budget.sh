@@ -1,12 +1,13 @@
 #!/bin/bash
-# Counts the x86-64 instructions of every job's calls on dear and on random inputs, holds each call to its formula, and
-# prints docs/BUDGETS.md:
+# Counts the x86-64 instructions of every job's calls on dear and on random inputs, holds each call to its formula (the
+# witnesses, which exceed it, are printed beside it), and prints docs/BUDGETS.md:
 #
 #   bench/budget.sh >docs/BUDGETS.md
 #
 #   LIB    the library, default target/staticlib/libzompelgors.a; REGIONS the second, beside it
 #   BUILD  where the program is built, default target/budget
 #   CPU    the processor that is emulated, default qemu64
+#   BYTES  set to count with memset and memcpy as loops over bytes, for which the formulas don't hold
 #   SEED   of the random inputs, default 1; CASES how many of them for each job, on average, default 10000
 #
 # The status is 0 if every call is within its formula, 1 if one is over it, 2 if a tool or the library is missing.
@@ -33,8 +34,9 @@ build() {
         "$CC" "${cflags[@]}" -std=gnu11 -O3 -c "bench/$part.c" -o "$BUILD/$part.o" || return 1
     done
     "$CC" "${cflags[@]}" -std=gnu11 -O2 -include bench/counted.h -c tests/call.c -o "$BUILD/call.o" || return 1
-    "$CXX" "${cxxflags[@]}" -Ibench -O2 -Wl,-z,now bench/budget.cpp "$BUILD"/{call,maps,plain}.o "${LIBS[@]}" \
-        -o "$BUILD/budget"
+    [ -z "${BYTES:-}" ] || "$CC" "${cflags[@]}" -O2 -c bench/bytes.c -o "$BUILD/bytes.o" || return 1
+    "$CXX" "${cxxflags[@]}" -Ibench -O2 -Wl,-z,now bench/budget.cpp "$BUILD"/{call,maps,plain}.o \
+        ${BYTES:+"$BUILD/bytes.o"} "${LIBS[@]}" -o "$BUILD/budget"
 }
 build || exit 2
 

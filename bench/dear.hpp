@@ -4,12 +4,16 @@
 
 #include "random_cases.hpp"
 
+#include <stdexcept>
+
 extern "C" {
 #include "maps.h"
 #include "plain.h"
 }
 
 namespace dear {
+
+constexpr unsigned most_darts = 4096;
 
 // ---------------------------------------------------------------- pyramids
 
@@ -149,6 +153,50 @@ inline Pyramid shared_way(unsigned darts)
     return p;
 }
 
+// A small pyramid, copied side by side as often as there is room.
+inline Pyramid side_by_side(const Pyramid& p)
+{
+    const unsigned darts = most_darts / p.darts * p.darts;
+    Pyramid all{p.n, darts, p.h, {}, {}, {}, {}};
+    for (unsigned d = 0; d < (p.n + 1) * darts; d++) {
+        const unsigned at = d % darts, first = at / p.darts * p.darts;
+        all.rows.push_back(std::uint16_t(first + p.rows[d / darts * p.darts + at % p.darts]));
+    }
+    for (unsigned d = 0; d < darts; d++) {
+        all.lambda.push_back(p.lambda[d % p.darts]);
+        all.delta.push_back(p.delta[d % p.darts]);
+    }
+    return all;
+}
+
+inline void link(Pyramid& p, unsigned row, unsigned d, unsigned e)
+{
+    if (e >= p.darts)
+        return;
+    p.rows[row * p.darts + d] = std::uint16_t(e);
+    p.rows[row * p.darts + e] = std::uint16_t(d);
+}
+
+// One survivor, then pairs of darts along row i, removed and contracted in turn by the kernel of a level, and at the end
+// a fixed point: one walk passes every dart.
+inline Pyramid chain(unsigned n, unsigned h, unsigned level, unsigned i)
+{
+    Pyramid p = alone(n, most_darts);
+    p.h = h;
+    std::fill(p.lambda.begin(), p.lambda.end(), std::uint8_t(level));
+    p.lambda[0] = std::uint8_t(h);
+    link(p, i, 0, 1);
+    for (unsigned d = 1; d < p.darts; d += 2) {
+        const bool removed = d / 2 % 2 == 0;
+        p.delta[d] = std::uint8_t(removed ? i : independent::contracted + i);
+        if (d + 1 < p.darts)
+            p.delta[d + 1] = p.delta[d];
+        link(p, removed ? i + 1 : i - 1, d, d + 1);
+        link(p, i, d + 1, d + 2);
+    }
+    return p;
+}
+
 // The same pyramid with its darts numbered the other way round.
 inline Pyramid reversed(Pyramid p)
 {
@@ -159,6 +207,28 @@ inline Pyramid reversed(Pyramid p)
     std::reverse(p.lambda.begin(), p.lambda.end());
     std::reverse(p.delta.begin(), p.delta.end());
     return p;
+}
+
+// ---------------------------------------------------------------- pyramids that cost more than their formula
+
+// The name is that of the group in the page's table.
+struct Witness {
+    const char* name;
+    Pyramid pyramid;
+};
+
+inline std::vector<Witness> witnesses()
+{
+    const Pyramid pair{2, 2, 1, {0, 1, 0, 1, 1, 0}, {0, 1}, {10, 2}, {}};
+    const Pyramid late_pair{2, 2, 2, {0, 1, 0, 1, 1, 0}, {2, 0}, {2, 10}, {}};
+    const Pyramid square{1, 4, 2, {3, 2, 1, 0, 0, 1, 3, 2}, {0, 0, 2, 1}, {0, 0, 1, 9}, {}};
+    std::vector<Witness> all = {
+        {"pairs", side_by_side(pair)}, {"late-pairs", side_by_side(late_pair)}, {"squares", side_by_side(square)}};
+    for (unsigned n = 2; n <= 4; n++)
+        for (unsigned i = 1; i < n; i++)
+            for (const unsigned h : {1u, 2u, 32u})
+                all.push_back({"chain", chain(n, h, 0, i)});
+    return all;
 }
 
 // ---------------------------------------------------------------- cases
@@ -194,9 +264,11 @@ inline Case lend_add(const Pyramid& p)
 inline Case lend_level(const Pyramid& p, unsigned level, unsigned dimension)
 {
     Case c = lend(MARK, p, 0);
-    plain_unfold(std::uint8_t(p.n), std::uint16_t(p.darts), std::uint8_t(p.h), p.rows.data(), p.rows.size(),
-                 p.lambda.data(), p.darts, p.delta.data(), p.darts, std::uint8_t(level), c.table.data(),
-                 c.table.size());
+    const zg_unfolding unfolded = plain_unfold(
+        std::uint8_t(p.n), std::uint16_t(p.darts), std::uint8_t(p.h), p.rows.data(), p.rows.size(), p.lambda.data(),
+        p.darts, p.delta.data(), p.darts, std::uint8_t(level), c.table.data(), c.table.size());
+    if (unfolded.refusal.number)
+        throw std::logic_error("a level of a good pyramid is refused");
     c.involution = dimension;
     return c;
 }

@@ -5,6 +5,7 @@
 #   BUILD  where the programs are built, default target/bench
 #   CPU    the processor that is emulated, default qemu64
 #   JOBS   the jobs to measure, default all; MAPS the maps, default all
+#   PLOTS  where the plots go, default docs/figures if everything is measured, and nowhere else; empty: no plots
 #
 # Each figure is a run with one repetition less a run with none, so that setting up isn't in it. All buffers are
 # written before: they were cleared once, and no page is touched for the first time while instructions are counted.
@@ -14,6 +15,8 @@
 set -u
 source "$(dirname "$0")/../tests/tools.sh"
 BUILD=${BUILD:-target/bench} CPU=${CPU:-qemu64}
+[ -n "${JOBS:-}${MAPS:-}" ] || [ "$LIB" = c ] || PLOTS=${PLOTS-docs/figures}
+PLOTS=${PLOTS:-}
 maps=${MAPS:-"grid2 grid3 path32 grid4 strip voxels both1 both2 both3 both4 cycle vertex"}
 jobs=${JOBS:-"check add unfold read bylevels mark take write regions rebase survivors decimation census import export join"}
 
@@ -21,9 +24,10 @@ need_compiler
 [ "$LIB" != c ] || need "$binutils" "$OBJCOPY" --version
 [ "$CC" = gcc ] || need gcc gcc --version # of this machine, for the plug-in
 [ ${#run[@]} -gt 0 ] || need qemu-user qemu-x86_64 --version
+[ -z "$PLOTS" ] || need python3 python3 --version
 say_lacking
 [ ${#lacking[@]} -eq 0 ] || exit 2
-mkdir -p "$BUILD" || exit 2
+rm -rf "$BUILD/counts" && mkdir -p "$BUILD/counts" || exit 2
 library "$BUILD"
 
 # The C library comes before the library measured: should that bring a memcpy of its own, both use the same one. The
@@ -35,24 +39,29 @@ build() {
         "$CC" "${cflags[@]}" -std=gnu11 -O3 -c "bench/$part.c" -o "$BUILD/$part.o" || return 1
     done
     "$CC" -static "$BUILD/bench.o" "$BUILD/maps.o" "$BUILD/plain.o" -lc "${LIBS[@]}" -o "$BUILD/bench" || return 1
-    "$CC" "${cflags[@]}" -std=gnu11 -O3 bench/reads.c "$BUILD/maps.o" "$BUILD/plain.o" -o "$BUILD/reads"
+    "$CC" "${cflags[@]}" -std=gnu11 -O3 bench/reads.c "$BUILD/maps.o" "$BUILD/plain.o" -o "$BUILD/reads" || return 1
+    "$CC" "${cflags[@]}" -std=gnu11 -O3 bench/levels.c "$BUILD/maps.o" "$BUILD/plain.o" "${LIBS[@]}" -o "$BUILD/levels"
 }
 build || exit 2
 
 # instructions IMPLEMENTATION JOB MAP REPEAT; what the program says (n, N, h, base reads) goes to a file.
 instructions() {
-    local out
-    if ! out=$(qemu-x86_64 -cpu "$CPU" -plugin "$BUILD/libinsn.so" "$BUILD/bench" "$@" 2>&1 >"$BUILD/facts"); then
+    local out facts=$BUILD/counts/$2.$3.facts
+    if ! out=$(qemu-x86_64 -cpu "$CPU" -plugin "$BUILD/libinsn.so" "$BUILD/bench" "$@" 2>&1 >"$facts"); then
         echo "bench $* failed: $out" >&2
         return 1
     fi
     echo "${out##*instructions }"
 }
 
-# count IMPLEMENTATION JOB MAP: of one repetition.
+# count IMPLEMENTATION JOB MAP: of one repetition; counted once.
 count() {
-    local with without
-    with=$(instructions "$@" 1) && without=$(instructions "$@" 0) && echo $((with - without))
+    local with without kept=$BUILD/counts/$1.$2.$3
+    if [ ! -f "$kept" ]; then
+        with=$(instructions "$@" 1) && without=$(instructions "$@" 0) || return 1
+        echo $((with - without)) >"$kept"
+    fi
+    cat "$kept"
 }
 
 # own IMPLEMENTATION JOB MAP: what a job takes itself; a taking ends with a check, a writing, a decimation, a census,
@@ -100,7 +109,7 @@ for job in $jobs; do
         # regions have names only where nothing is contracted
         [[ $job/$map != regions/both* ]] || continue
         lib=$(own library "$job" "$map") && c=$(own c "$job" "$map") || exit 2
-        read -r n darts h reads <"$BUILD/facts"
+        read -r n darts h reads <"$BUILD/counts/$job.$map.facts"
         printf '%-10s %-22s ' "$job" "$map ($n, $darts, $h)"
         line "$lib" "$c" "$reads" "$(limit "$job" "$map")" || over=$((over + 1))
     done
@@ -110,7 +119,7 @@ echo
 echo "readings by levels in C that pass at once over levels without a change (those above go level by level)"
 for map in $maps; do
     c=$(count skipping bylevels "$map") || exit 2
-    read -r n darts h reads <"$BUILD/facts"
+    read -r n darts h reads <"$BUILD/counts/bylevels.$map.facts"
     each=$(awk -v c="$c" -v reads="$reads" 'BEGIN { printf "%.2f", c / reads }')
     printf "$columns\n" bylevels "$map ($n, $darts, $h)" "" "$c" "$reads" "" "$each"
 done
@@ -124,7 +133,7 @@ for job in check unfold mark import export regions rebase; do
         printf '%-8s %-8s' "$job" "$map"
         for size in -512 -1024 -2048 ""; do
             lib=$(own library "$job" "$map$size") && c=$(own c "$job" "$map$size") || exit 2
-            read -r n darts h reads <"$BUILD/facts"
+            read -r n darts h reads <"$BUILD/counts/$job.$map$size.facts"
             awk -v a="$lib" -v c="$c" -v d="$darts" 'BEGIN { printf " %20s", sprintf("%.1f (%.1f)", a / d, c / d) }'
         done
         echo
@@ -134,6 +143,26 @@ done
 echo
 echo "table entries read by the walks of all kernels, links followed from both ends and once; others that relinking reads"
 "${run[@]}" "$BUILD/reads" $maps || exit 2
+
+# plots: what they are drawn from, by darts and by kernels, and each level's survivors and reads.
+measured() {
+    local job map lib c n darts h reads
+    echo "# bench/run.sh wrote this: $("$CC" --version | head -n 1), -O3; $(qemu-x86_64 --version | head -n 1), -cpu $CPU"
+    for job in $jobs; do
+        for map in grid2-512 grid2-1024 grid2-2048 grid2 tall1 tall2 tall4 tall8 tall16 tall32; do
+            lib=$(own library "$job" "$map") && c=$(own c "$job" "$map") || return 1
+            read -r n darts h reads <"$BUILD/counts/$job.$map.facts"
+            echo "instructions $job $map $n $darts $h $lib $c"
+        done
+    done
+    "${run[@]}" "$BUILD/levels" grid2 grid3 grid4 path32 voxels both3 tall32
+}
+if [ -n "$PLOTS" ]; then
+    measured >"$BUILD/measured.txt" || exit 2
+    mkdir -p "$PLOTS" && cp "$BUILD/measured.txt" "$PLOTS" && python3 docs/figures/draw.py --plots "$PLOTS" || exit 2
+    echo
+    echo "plots of ${PLOTS}/measured.txt: $(cd "$PLOTS" && echo plot-*.svg)"
+fi
 
 echo
 echo "$over ratios over their target"
