@@ -1,10 +1,13 @@
-/* Brings in a 2D combinatorial map, walks around a vertex and a face of its base, and takes it back. */
-#include "zompelgors.h"
+/* Brings in a 2D combinatorial map, walks around a vertex and a face of its base, takes it back, and brings in a wrong
+ * one, which is refused. Status 0 if all of that came about, 1 if not, 2 the answers can't be written. */
+#include "zompelgors_pyramid.h"
 
 #include <stdio.h>
 #include <string.h>
 
 enum { EDGES = 12, M = 2 * EDGES };
+
+static zg_room room;
 
 /*
  * A grid of 3 x 3 points. Edge k, 1 to 12, has the darts k and -k: 1 and 2 run along the top, 3 and 4 along the middle,
@@ -20,9 +23,9 @@ static int dart_of(unsigned number) { return number % 2 ? -(int)(number / 2) - 1
 
 static int refused(zg_refusal r)
 {
-    if (r.number != ZG_ACCEPTED)
+    if (zg_refused(r))
         printf("refused %u %u %u %u: %s\n", r.number, r.level, r.involution, r.dart, zg_refusal_text(r.number));
-    return r.number != ZG_ACCEPTED;
+    return zg_refused(r);
 }
 
 /* From a dart by one row and then by the other, until it comes round: every second dart of the base is 2d. */
@@ -39,22 +42,24 @@ static void round_about(const char *what, const uint16_t *rows, unsigned first, 
 
 int main(void)
 {
-    uint16_t edges[M], vertices[M], rows[6 * M], edges_back[M], vertices_back[M];
+    uint16_t edges[M], vertices[M];
+    zg_pyramid p = zg_room_pyramid(&room);
     for (unsigned d = 0; d < M; d++)
         edges[d] = (uint16_t)(d ^ 1);
     for (const int *first = corners, *dart = first; first < corners + sizeof corners / sizeof *corners; first = ++dart)
         for (; *dart; dart++)
             vertices[number_of(*dart)] = number_of(dart[1] ? dart[1] : *first);
-    if (refused(zg_import(M, edges, M, vertices, M, rows, 6 * M)) || refused(zg_check_base(2, 2 * M, rows, 6 * M)))
+    if (zg_version() != ZG_VERSION || refused(zg_pyramid_import(&p, M, edges, M, vertices, M)) ||
+        refused(zg_pyramid_check(&p, room.table, ZG_MOST_ENTRIES)))
         return 1;
-    printf("%d darts became %d\n", M, 2 * M);
-    round_about("around the vertex in the middle", rows, 2, 1, -8);
-    round_about("around the face at the top left", rows, 0, 1, 1);
-    if (refused(zg_export(2, 2 * M, rows, 6 * M, edges_back, M, vertices_back, M)))
+    printf("%d darts became %u\n", M, p.darts);
+    round_about("around the vertex in the middle", p.rows, 2, 1, -8);
+    round_about("around the face at the top left", p.rows, 0, 1, 1);
+    if (refused(zg_pyramid_export(&p, room.edges, ZG_MOST_PARTNER_DARTS, room.vertices, ZG_MOST_PARTNER_DARTS)))
         return 1;
-    puts(memcmp(edges, edges_back, sizeof edges) || memcmp(vertices, vertices_back, sizeof vertices)
-             ? "other rows came back"
-             : "the same two rows came back");
+    int same = !memcmp(edges, room.edges, sizeof edges) && !memcmp(vertices, room.vertices, sizeof vertices);
+    puts(same ? "the same two rows came back" : "other rows came back");
     vertices[number_of(4)] = number_of(-3); /* -8 leads there too, and comes after 4 */
-    return !refused(zg_import(M, edges, M, vertices, M, rows, 6 * M));
+    int told = refused(zg_pyramid_import(&p, M, edges, M, vertices, M));
+    return fflush(stdout) || ferror(stdout) ? 2 : !same || !told;
 }

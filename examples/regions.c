@@ -1,17 +1,31 @@
 /* Takes a record and counts the regions of each of its levels: regions RECORD. One line a level: its number, how many
- * names there are, and how many darts the largest region has. A refusal is said in words. */
-#include "zompelgors.h"
-#include "zompelgors_regions.h"
+ * names there are, and how many darts the largest region has. A refusal is said in words. Status 0 printed, 1 refused,
+ * 2 the call is wrong, or something can't be read or written. */
+#include "zompelgors_pyramid.h"
 #include <stdio.h>
 
-static uint8_t bytes[ZG_MOST_RECORD + 1], lambda[ZG_MOST_DARTS], delta[ZG_MOST_DARTS];
-static uint16_t rows[ZG_MOST_ENTRIES], table[ZG_MOST_ENTRIES], names[ZG_MOST_DARTS];
+static zg_room room;
 
 static int refused(zg_refusal r)
 {
-    if (r.number != ZG_ACCEPTED)
+    if (zg_refused(r))
         printf("refused %u %u %u %u: %s\n", r.number, r.level, r.involution, r.dart, zg_refusal_text(r.number));
-    return r.number != ZG_ACCEPTED;
+    return zg_refused(r);
+}
+
+static int wrong(const char *what)
+{
+    fprintf(stderr, "regions: %s\n", what);
+    return 2;
+}
+
+/* The bytes of a file into the room; -1 if it can't be read. */
+static long bytes_of(const char *path)
+{
+    FILE *file = fopen(path, "rb");
+    size_t length = file ? fread(room.bytes, 1, sizeof room.bytes, file) : 0;
+    int bad = !file || ferror(file);
+    return (file && fclose(file)) || bad ? -1 : (long)length;
 }
 
 /* A dart that is its own name begins a region. */
@@ -22,8 +36,8 @@ static void count(unsigned level, unsigned darts)
     for (d = 0; d < darts; d++)
         size[d] = 0;
     for (d = 0; d < darts; d++) {
-        regions += names[d] == d;
-        size[names[d]]++;
+        regions += room.names[d] == d;
+        size[room.names[d]]++;
     }
     for (d = 0; d < darts; d++)
         largest = size[d] > largest ? size[d] : largest;
@@ -32,19 +46,21 @@ static void count(unsigned level, unsigned darts)
 
 int main(int argc, char **argv)
 {
-    FILE *file = argc == 2 ? fopen(argv[1], "rb") : NULL;
-    if (!file || zg_version() != ZG_VERSION)
-        return 2;
-    size_t length = fread(bytes, 1, sizeof bytes, file);
-    zg_record r = zg_take(bytes, length, rows, ZG_MOST_ENTRIES, lambda, ZG_MOST_DARTS, delta, ZG_MOST_DARTS, table,
-                          ZG_MOST_ENTRIES);
-    size_t entries = (r.n + 1u) * r.darts, N = r.darts;
-    if (refused(r.refusal))
+    if (argc != 2)
+        return wrong("give a record");
+    if (zg_version() != ZG_VERSION)
+        return wrong("header and library are of two versions");
+    long length = bytes_of(argv[1]);
+    if (length < 0)
+        return wrong("the record can't be read");
+
+    zg_pyramid p = zg_room_pyramid(&room);
+    if (refused(zg_pyramid_take(&p, room.bytes, (size_t)length, room.table, ZG_MOST_ENTRIES).refusal))
         return 1;
-    for (uint8_t level = 0; level <= r.h; level++) {
-        if (refused(zg_regions(r.n, r.darts, r.h, rows, entries, lambda, N, delta, N, table, entries, level, names, N)))
+    for (uint8_t level = 0; level <= p.h; level++) {
+        if (refused(zg_pyramid_regions(&p, level, room.table, ZG_MOST_ENTRIES, room.names, ZG_MOST_DARTS)))
             return 1;
-        count(level, r.darts);
+        count(level, p.darts);
     }
-    return 0;
+    return fflush(stdout) || ferror(stdout) ? wrong("the counts can't be written") : 0;
 }

@@ -1,4 +1,4 @@
-/* The two headers and the two archives, as C99 and as C++11: layouts, texts, that header and archive are of one
+/* The headers and the two archives, as C and as C++: layouts, numbers and texts, that header and archive are of one
  * version, and that both archives are linked side by side. */
 #include "zompelgors.h"
 #include "zompelgors_regions.h"
@@ -35,6 +35,11 @@ SAME(place_of_darts, offsetof(zg_record, darts), 10);
 SAME(size_of_factor, sizeof(zg_factor), 24);
 SAME(place_of_empty, offsetof(zg_factor, empty), 8);
 SAME(place_of_factor, offsetof(zg_factor, factor), 16);
+SAME(size_of_written, sizeof(zg_written), 12);
+SAME(place_of_written_length, offsetof(zg_written, length), 8);
+SAME(size_of_base, sizeof(zg_base), 12);
+SAME(place_of_base_darts, offsetof(zg_base, darts), 8);
+SAME(place_of_base_height, offsetof(zg_base, h), 10);
 
 /* Every answer begins with its refusal. */
 SAME(first_of_reading, offsetof(zg_reading, refusal), 0);
@@ -45,6 +50,22 @@ SAME(first_of_height, offsetof(zg_height, refusal), 0);
 SAME(first_of_part, offsetof(zg_part, refusal), 0);
 SAME(first_of_record, offsetof(zg_record, refusal), 0);
 SAME(first_of_factor, offsetof(zg_factor, refusal), 0);
+SAME(first_of_written, offsetof(zg_written, refusal), 0);
+SAME(first_of_base, offsetof(zg_base, refusal), 0);
+
+/* Sizes that follow from others. */
+SAME(most_entries, ZG_MOST_ENTRIES, (ZG_MOST_DIMENSION + 1) * ZG_MOST_DARTS);
+SAME(most_record, ZG_MOST_RECORD, 7 + 5 * (3 + 2 * ZG_MOST_DARTS) + 2 * (3 + ZG_MOST_DARTS));
+SAME(rows_of_a_census, ZG_SUMS, ZG_MOST_HEIGHT + 1);
+SAME(counts_of_a_census, ZG_CELLS, 5 * ZG_SUMS);
+SAME(older_name_of_a_height, ZG_MOST_LEVELS, ZG_MOST_HEIGHT);
+
+/* The old names of the numbers, as long as they are there. */
+#ifndef ZG_NO_OLD_NAMES
+SAME(old_darts, ZG_DARTS, ZG_E_DARTS);
+SAME(old_marks, ZG_MARKS, ZG_E_MARKS);
+SAME(old_contracted, ZG_CONTRACTED, ZG_E_CONTRACTED);
+#endif
 
 static int fail(const char *what)
 {
@@ -60,15 +81,15 @@ int main(void)
     uint16_t table[4], names[2] = {9, 9};
     if (zg_version() != ZG_VERSION)
         return fail("the archive is of another version than the header");
-    for (k = ZG_ACCEPTED; k <= ZG_CONTRACTED; k++)
+    for (k = ZG_ACCEPTED; k <= ZG_E_CONTRACTED; k++)
         for (other = 0; other < k; other++)
             if (!strcmp(zg_refusal_text(k), zg_refusal_text(other)))
                 return fail("two numbers have one text");
-    if (strcmp(zg_refusal_text(ZG_CONTRACTED + 1), zg_refusal_text(65535)))
+    if (strcmp(zg_refusal_text(ZG_E_CONTRACTED + 1), zg_refusal_text(65535)))
         return fail("a text for a number that is none");
     if (zg_check(1, 2, 1, rows, 4, lambda, 2, delta, 2, table, 4).number ||
         zg_regions(1, 2, 1, rows, 4, lambda, 2, delta, 2, table, 4, 1, names, 2).number || names[0] || names[1])
         return fail("the two archives don't go together");
-    printf("version %d.%d.%d, %d numbers\n", ZG_VERSION_MAJOR, ZG_VERSION_MINOR, ZG_VERSION_PATCH, ZG_CONTRACTED);
+    printf("version %d.%d.%d, %d numbers\n", ZG_VERSION_MAJOR, ZG_VERSION_MINOR, ZG_VERSION_PATCH, ZG_E_CONTRACTED);
     return 0;
 }

@@ -1,10 +1,11 @@
 #!/usr/bin/env python3
 """Holds the pages of docs/ to the sources: public functions, theorems of one outcome, wrong programs, definitions and
-their lines, names and files of docs/DEMANDS.md and docs/CONTRACTS.md, functions of the C interface in README.md
-and docs/BUDGETS.md, the formulas of bench/budget.py, headings that are cited; and the C header to the crates: names of refusals, version, width.
+their lines, names and files of docs/DEMANDS.md, docs/CONTRACTS.md and docs/GLOSSARY.md, functions of the C interface in
+docs/JOBS.md and docs/BUDGETS.md, the formulas of bench/budget.py, headings that are cited, the pictures of docs/figures
+to what draws them, the table of docs/CRATES.md to crates.txt; and the C header to the crates: names of refusals, version, width.
 
 tests/pages.py            says what differs, and fails if anything does
-tests/pages.py --write    writes docs/DEFINITIONS.md anew
+tests/pages.py --write    writes docs/DEFINITIONS.md and the table of docs/CRATES.md anew
 """
 import importlib.util
 import re
@@ -14,8 +15,9 @@ from pathlib import Path
 
 ROOT = Path(__file__).resolve().parent.parent
 CRATES = ROOT / "crates"
-NAMED_PAGES = ["docs/DEMANDS.md", "docs/CONTRACTS.md"]
-TOLD_PAGES = ["README.md", "docs/SCOPE.md", "docs/INTEGRATING.md", "docs/BUDGETS.md", "docs/DECISIONS.md"]
+FIGURES = ROOT / "docs" / "figures"
+NAMED_PAGES = ["docs/DEMANDS.md", "docs/CONTRACTS.md", "docs/GLOSSARY.md"]
+TOLD_PAGES = ["README.md", "docs/TOUR.md", "docs/JOBS.md", "docs/CRATES.md", "docs/SCOPE.md", "docs/INTEGRATING.md", "docs/BUDGETS.md", "docs/DECISIONS.md"]
 # of the language and the prover; f stands for any function
 LANGUAGE = {"requires", "Learnt", "returns", "loop-again", "f-requires", "f-one"}
 # a definition begins so; the other declarations that are public are theorems and fields
@@ -272,6 +274,14 @@ def prose_differences():
                     yield f"{page}:{number} names {name}, which nothing declares"
 
 
+def glossary_differences():
+    """Every file of crates/maps/specs has a word in docs/GLOSSARY.md; Lib only lists them."""
+    named = {path for page, _, _, files in named_rows() if page == "docs/GLOSSARY.md" for path in files}
+    for path in sorted(set((CRATES / "maps" / "specs").glob("*.antt")) - named):
+        if path.stem != "Lib":
+            yield f"docs/GLOSSARY.md has no word of {path.relative_to(ROOT)}"
+
+
 def edit_differences():
     """The edits under must-fail/ and those told; the function at which one is refused is of its crate."""
     edits = {f"{p.parent.parent.name}/{p.stem}" for p in CRATES.glob("*/must-fail/*.edit")}
@@ -292,8 +302,8 @@ def edit_differences():
 
 
 def spelt(variant):
-    """The header's name of a refusal: NotTwice is ZG_NOT_TWICE."""
-    return "ZG_" + re.sub(r"(?<!^)([A-Z])", r"_\1", variant).upper()
+    """The header's name of a refusal: NotTwice is ZG_E_NOT_TWICE."""
+    return "ZG_E_" + re.sub(r"(?<!^)([A-Z])", r"_\1", variant).upper()
 
 
 def header_differences():
@@ -336,10 +346,10 @@ def function_differences():
 
 
 def interface_differences():
-    """Every function of the headers has its row in README.md and in the tables of docs/BUDGETS.md."""
+    """Every function of the headers has its row in docs/JOBS.md and in the tables of docs/BUDGETS.md."""
     headers = "".join(path.read_text() for path in (ROOT / "include").glob("*.h"))
     due = set(re.findall(r"^\w+ (zg_\w+)\(", headers, re.M))
-    for page, column in (("README.md", "Crate"), ("docs/BUDGETS.md", "Bytes"), ("docs/BUDGETS.md", "others")):
+    for page, column in (("docs/JOBS.md", "Crate"), ("docs/BUDGETS.md", "Bytes"), ("docs/BUDGETS.md", "others")):
         told = {name for _, _, header, row in tables(page) if column in header for name in re.findall(r"zg_\w+", row[0])}
         for name in sorted(due ^ told):
             yield f"{page} and the headers differ in {name}, by the table with '{column}'"
@@ -356,6 +366,43 @@ def budget_differences():
             yield f"docs/BUDGETS.md hasn't the row that bench/budget.py prints: {row}"
 
 
+def quoted_differences():
+    """A block of code whose first line names a file is a part of that file."""
+    for page in TOLD_PAGES + ["docs/CONTRIBUTING.md"]:
+        for name, block in re.findall(r"^```(crates/\S+)\n(.*?)^```$", (ROOT / page).read_text(), re.M | re.S):
+            if not (ROOT / name).is_file() or block not in (ROOT / name).read_text():
+                yield f"{page} shows what {name} hasn't"
+
+
+# ---- pictures, and the crates
+
+
+def figures():
+    """docs/figures/draw.py as a module, and what it draws with."""
+    if str(FIGURES) not in sys.path:
+        sys.path.insert(0, str(FIGURES))
+    return importlib.import_module("draw")
+
+
+def figure_differences():
+    """The SVGs are what docs/figures/draw.py writes, and each is shown on a page."""
+    yield from figures().differences()
+    shown = "".join(path.read_text() for path in [ROOT / "README.md", *(ROOT / "docs").glob("*.md")])
+    for path in sorted(FIGURES.glob("*.svg")):
+        if f"figures/{path.name})" not in shown:
+            yield f"no page shows docs/figures/{path.name}"
+    for name in re.findall(r"\]\(((?:docs/)?figures/[^)]*)\)", shown):
+        if not (FIGURES / Path(name).name).is_file():
+            yield f"a page shows {name}, which is no file"
+
+
+def crates_page():
+    """docs/CRATES.md, with the rows of its first table from crates.txt."""
+    page = (ROOT / "docs" / "CRATES.md").read_text()
+    rows = "".join(f"{row}\n" for row in figures().crates.table_rows())
+    return re.sub(r"(^\| Crate .*\n\|---.*\n)(?:\|.*\n)*", lambda m: m[1] + rows, page, count=1, flags=re.M)
+
+
 def differences():
     yield from function_differences()
     yield from interface_differences()
@@ -363,9 +410,14 @@ def differences():
     yield from name_differences()
     yield from contract_differences()
     yield from prose_differences()
+    yield from glossary_differences()
     yield from edit_differences()
     if (ROOT / "docs" / "DEFINITIONS.md").read_text() != definitions_page():
         yield "docs/DEFINITIONS.md is not what --write writes"
+    yield from quoted_differences()
+    yield from figure_differences()
+    if (ROOT / "docs" / "CRATES.md").read_text() != crates_page():
+        yield "docs/CRATES.md is not what --write writes"
     yield from header_differences()
     yield from cited_differences()
 
@@ -373,6 +425,7 @@ def differences():
 if __name__ == "__main__":
     if sys.argv[1:] == ["--write"]:
         (ROOT / "docs" / "DEFINITIONS.md").write_text(definitions_page())
+        (ROOT / "docs" / "CRATES.md").write_text(crates_page())
     found = list(differences())
     print("\n".join(found + [f"pages: {len(found)} differences"]))
     sys.exit(1 if found else 0)

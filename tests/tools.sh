@@ -10,11 +10,12 @@ LIB=${LIB:-target/staticlib/libzompelgors.a} REGIONS=${REGIONS:-target/staticlib
 
 # for_c, for_cxx: the packages that it takes to build a program of that language and run it.
 if [ "$(uname -m)" = x86_64 ] && [ -z "${EMULATE:-}" ]; then
-    CC=${CC:-gcc} CXX=${CXX:-g++} OBJCOPY=${OBJCOPY:-objcopy}
+    CC=${CC:-gcc} CXX=${CXX:-g++} OBJCOPY=${OBJCOPY:-objcopy} AR=${AR:-ar}
     run=()
     for_c=(gcc libc6-dev) for_cxx=(g++) binutils=binutils
 else
     CC=${CC:-x86_64-linux-gnu-gcc} CXX=${CXX:-x86_64-linux-gnu-g++} OBJCOPY=${OBJCOPY:-x86_64-linux-gnu-objcopy}
+    AR=${AR:-x86_64-linux-gnu-ar}
     # Programs are dynamic: the cross libm.a names a file by a path that only an x86-64 machine has. The path keeps the
     # loader and the C library of one kind where another x86-64 C library is installed too.
     run=(qemu-x86_64 -L /usr/x86_64-linux-gnu -E LD_LIBRARY_PATH=/usr/x86_64-linux-gnu/lib)
@@ -25,7 +26,7 @@ for_cxx+=("${for_c[@]}")
 cflags=(-std=c11 -Wall -Wextra -Wno-missing-field-initializers -Iinclude -Itests -Ibench)
 cxxflags=(-std=c++17 -Wall -Wextra -Iinclude -Itests)
 
-lacking=() left_out=0
+lacking=() left_out=0 standin=
 
 # need PACKAGE COMMAND..: notes the package if the command fails or isn't there.
 need() {
@@ -68,7 +69,8 @@ can() {
     return 1
 }
 
-# library DIRECTORY: makes sure that there are both libraries to link, and sets LIBS to them.
+# library DIRECTORY: makes sure that there are both libraries to link, and sets LIBS to them; standin says that they are
+# the plain C.
 library() {
     if [ "$LIB" = c ]; then
         local job rename=()
@@ -76,11 +78,15 @@ library() {
             write decimation census import export regions join rebase; do
             rename+=(--redefine-sym "plain_$job=zg_$job")
         done
-        "$CC" "${cflags[@]}" -O3 -c bench/plain.c -o "$1/standin.o" || exit 2
+        "$CC" "${cflags[@]}" -O3 -fPIC -c bench/plain.c -o "$1/standin.o" || exit 2
         # What else it has stays its own: the bench links the plain C beside it.
         "$OBJCOPY" "${rename[@]}" "$1/standin.o" || exit 2
-        "$OBJCOPY" -w --keep-global-symbol='zg_*' "$1/standin.o" || exit 2
-        LIB=$1/standin.o LIBS=("$1/standin.o")
+        "$OBJCOPY" -w --keep-global-symbol='zg_*' --localize-symbol=zg_regions "$1/standin.o" "$1/first.o" || exit 2
+        "$OBJCOPY" --keep-global-symbol=zg_regions "$1/standin.o" "$1/second.o" || exit 2
+        LIB=$1/standin/libzompelgors.a REGIONS=$1/standin/libzompelgors_regions.a
+        rm -rf "$1/standin" && mkdir "$1/standin" || exit 2
+        "$AR" rcsD "$LIB" "$1/first.o" && "$AR" rcsD "$REGIONS" "$1/second.o" || exit 2
+        LIBS=("$LIB" "$REGIONS") standin=yes
         echo "the plain C of bench/ stands in the library's place"
         return
     fi

@@ -22,8 +22,6 @@
 //! # Ok::<(), zompelgors::Refusal>(())
 //! ```
 //!
-//! With the feature `regions` the second library is there too: the module `regions`.
-//!
 //! A level is no dimension:
 //!
 //! ```compile_fail,E0308
@@ -32,16 +30,36 @@
 //!     let _ = pyramid.read(Dimension(0), Level(1), 0);
 //! }
 //! ```
+//!
+//! # Features
+//!
+//! | Feature | Adds |
+//! |---|---|
+//! | none | every job on slices; the crate is `no_std` and allocates nothing |
+//! | `alloc` | `PyramidBuf`, a pyramid that owns its tables |
+//! | `std`, on by default | `alloc`, and `std::error::Error` for [`Refusal`] |
+//! | `regions` | the module `regions`, over the second archive |
+#![no_std]
 #![deny(unsafe_op_in_unsafe_fn)]
+#![warn(missing_docs)]
+
+#[cfg(feature = "alloc")]
+extern crate alloc;
+#[cfg(feature = "std")]
+extern crate std;
 
 mod answers;
+#[cfg(feature = "alloc")]
 mod owned;
 mod pyramid;
 pub mod raw;
 #[cfg(feature = "regions")]
 pub mod regions;
 
-pub use answers::{Base, Dimension, Factor, Header, Level, Link, Reading, Refusal, Unfolding};
+pub use answers::{
+    Base, Dimension, Factor, Header, Level, Link, Number, Reading, Refusal, Unfolding,
+};
+#[cfg(feature = "alloc")]
 pub use owned::PyramidBuf;
 pub use pyramid::Pyramid;
 
@@ -61,7 +79,10 @@ pub const MOST_DARTS: usize = 4_096;
 pub const MOST_PARTNER_DARTS: usize = 2_048;
 
 /// The largest h: so many levels above the base.
-pub const MOST_LEVELS: usize = 32;
+pub const MOST_HEIGHT: usize = 32;
+
+/// The same number under its older name. There are 33 levels at most.
+pub const MOST_LEVELS: usize = MOST_HEIGHT;
 
 /// The entries of the largest rows, or of the largest table.
 pub const MOST_ENTRIES: usize = 5 * MOST_DARTS;
@@ -76,20 +97,30 @@ pub const WORDS: usize = 64;
 pub const SUMS: usize = 33;
 
 /// The version of the library: 65,536 times its major number, 256 times its minor one, and its patch.
+#[must_use]
 pub fn version() -> u32 {
-    // Safety: it is lent nothing.
+    // SAFETY: it is lent nothing.
     unsafe { raw::zg_version() }
 }
 
 /// Checks a base.
+///
+/// # Errors
+///
+/// 1, 2, 4, then 5, 6 and 7 with the row and the dart.
 pub fn check_base(n: Dimension, darts: u16, rows: &[u16]) -> Result<(), Refusal> {
-    // Safety: the pointer comes from a slice with its length.
+    // SAFETY: the pointer comes from a slice with its length.
     let answer = unsafe { raw::zg_check_base(n.0, darts, rows.as_ptr(), rows.len()) };
     answer.accepted()
 }
 
 /// Adds a level on top, with the marks as kernel h: the new height. Λ and Δ grow with it, and the table holds the new
 /// top level. A mark is [`Dimension::removed`] or [`Dimension::contracted`] of a dimension, or [`STAY`].
+///
+/// # Errors
+///
+/// 1, 2, 3, 4, 20, 5, 6, 7, 8 (of Λ and Δ, then of the marks), 9, 10; Λ and Δ are then as they were. After 9 or 10 the table holds the
+/// level whose kernel failed.
 #[allow(clippy::too_many_arguments)]
 pub fn add(
     n: Dimension,
@@ -101,7 +132,7 @@ pub fn add(
     marks: &[u8],
     table: &mut [u16],
 ) -> Result<Level, Refusal> {
-    // Safety: every pointer comes from a slice with its own length, and only exclusive ones are written through.
+    // SAFETY: every pointer comes from a slice with its own length, and only exclusive ones are written through.
     let answer = unsafe {
         raw::zg_add(
             n.0,
@@ -124,6 +155,10 @@ pub fn add(
 
 /// Joins the kernels of a level and the next into one: the new height. Λ above that level falls with it, and the table
 /// holds the top level. Where the joined kernel is refused, which is by number 9, the table holds the level asked.
+///
+/// # Errors
+///
+/// 1 to 10 as [`Pyramid::check`], 11 where the next level is not below h, last 9 of the joined kernel. Λ is then as it was.
 #[allow(clippy::too_many_arguments)]
 pub fn join(
     n: Dimension,
@@ -135,7 +170,7 @@ pub fn join(
     table: &mut [u16],
     level: Level,
 ) -> Result<Level, Refusal> {
-    // Safety: every pointer comes from a slice with its own length, and only exclusive ones are written through.
+    // SAFETY: every pointer comes from a slice with its own length, and only exclusive ones are written through.
     let answer = unsafe {
         raw::zg_join(
             n.0,
@@ -158,6 +193,13 @@ pub fn join(
 /// Starts again from a level: it becomes the base, its darts numbered from 0 in rising order. The new rows, Λ and Δ stand
 /// at the front of what is lent, their old numbers at that of `old`; behind them stands 65,535, and 255 in Λ and Δ. The
 /// table is left as [`Pyramid::check`] leaves it.
+///
+/// A new base knows nothing of which of its boundaries belong to one region of the old one. Who needs that takes the
+/// region names first and carries them over by the old numbers.
+///
+/// # Errors
+///
+/// 1 to 10 as [`Pyramid::check`], then 11, then 2 for a level that has no dart; all but the table is then as it was.
 #[allow(clippy::too_many_arguments)]
 pub fn rebase(
     n: Dimension,
@@ -170,7 +212,7 @@ pub fn rebase(
     level: Level,
     old: &mut [u16],
 ) -> Result<Base, Refusal> {
-    // Safety: every pointer comes from an exclusive slice with its own length.
+    // SAFETY: every pointer comes from an exclusive slice with its own length.
     let answer = unsafe {
         raw::zg_rebase(
             n.0,
@@ -196,6 +238,10 @@ pub fn rebase(
 }
 
 /// Reads the mark row of a level back: Δ where Λ is that level, else [`STAY`]; for level h [`STAY`] throughout.
+///
+/// # Errors
+///
+/// 1, 2, 3, 4, 11, 8; the marks are then as they were.
 pub fn marks_of(
     n: Dimension,
     darts: u16,
@@ -205,7 +251,7 @@ pub fn marks_of(
     level: Level,
     marks: &mut [u8],
 ) -> Result<(), Refusal> {
-    // Safety: every pointer comes from a slice with its own length, and only the exclusive one is written through.
+    // SAFETY: every pointer comes from a slice with its own length, and only the exclusive one is written through.
     let answer = unsafe {
         raw::zg_marks_of(
             n.0,
@@ -224,6 +270,10 @@ pub fn marks_of(
 }
 
 /// A row of a level: for level 0 a part of the base rows, for any other a part of the unfolded level, and no copy.
+///
+/// # Errors
+///
+/// 1, 2, 3, 4, 11, 13.
 pub fn row<'a>(
     n: Dimension,
     darts: u16,
@@ -233,7 +283,7 @@ pub fn row<'a>(
     level: Level,
     involution: Dimension,
 ) -> Result<&'a [u16], Refusal> {
-    // Safety: both pointers come from a slice with its own length.
+    // SAFETY: both pointers come from a slice with its own length.
     let answer = unsafe {
         raw::zg_row(
             n.0,
@@ -253,6 +303,10 @@ pub fn row<'a>(
 }
 
 /// The survivor words of a level ([`WORDS`] of them), with the survivor count.
+///
+/// # Errors
+///
+/// 2, 3, 4, 11, 8 (of Λ alone); the words are then as they were.
 pub fn survivors(
     darts: u16,
     h: Level,
@@ -260,7 +314,7 @@ pub fn survivors(
     level: Level,
     words: &mut [u64],
 ) -> Result<u32, Refusal> {
-    // Safety: both pointers come from a slice with its own length, and only the exclusive one is written through.
+    // SAFETY: both pointers come from a slice with its own length, and only the exclusive one is written through.
     let answer = unsafe {
         raw::zg_survivors(
             darts,
@@ -278,6 +332,10 @@ pub fn survivors(
 /// Marks the removable cells of one dimension, below n, on an explicit level that fall into exactly two parts when that
 /// involution and the next are both left out; all other darts get [`STAY`]. Of a connected piece that would be marked as
 /// a whole, the cell of its lowest dart is left unmarked. There is no marking for contraction.
+///
+/// # Errors
+///
+/// 1, 2, 4, 13, 5, 6, 7; the marks are then as they were.
 pub fn mark_cells(
     n: Dimension,
     darts: u16,
@@ -285,7 +343,7 @@ pub fn mark_cells(
     dimension: Dimension,
     marks: &mut [u8],
 ) -> Result<(), Refusal> {
-    // Safety: both pointers come from a slice with its own length, and only the exclusive one is written through.
+    // SAFETY: both pointers come from a slice with its own length, and only the exclusive one is written through.
     let answer = unsafe {
         raw::zg_mark_cells(
             n.0,
@@ -302,6 +360,11 @@ pub fn mark_cells(
 
 /// Takes a record to the front of lent slices and checks its pyramid. Accepted, the front of the table holds the top level.
 /// After numbers 5 to 10 rows and marks hold what the record said, and the table what [`Pyramid::check`] leaves.
+///
+/// # Errors
+///
+/// 16, 17 and 18 with the byte offset of the field, 1, 2, 3 of the header, 19 with the offset of the first byte too many, 4, all
+/// with nothing written; then 5 to 10 as [`Pyramid::check`].
 pub fn take(
     bytes: &[u8],
     rows: &mut [u16],
@@ -309,7 +372,7 @@ pub fn take(
     delta: &mut [u8],
     table: &mut [u16],
 ) -> Result<Header, Refusal> {
-    // Safety: every pointer comes from a slice with its own length, and only exclusive ones are written through.
+    // SAFETY: every pointer comes from a slice with its own length, and only exclusive ones are written through.
     let answer = unsafe {
         raw::zg_take(
             bytes.as_ptr(),
@@ -333,8 +396,12 @@ pub fn take(
 
 /// Brings in a 2D combinatorial map of m darts, an edge partner and a vertex successor for each, as the rows of a base
 /// of dimension 2 with 2m darts: dart d becomes 2d and 2d+1. After a refusal the rows are as they were.
+///
+/// # Errors
+///
+/// 2, 4, 5, 6, 21.
 pub fn import(m: u16, edges: &[u16], vertices: &[u16], rows: &mut [u16]) -> Result<(), Refusal> {
-    // Safety: every pointer comes from a slice with its own length, and only the exclusive one is written through.
+    // SAFETY: every pointer comes from a slice with its own length, and only the exclusive one is written through.
     let answer = unsafe {
         raw::zg_import(
             m,
@@ -351,6 +418,10 @@ pub fn import(m: u16, edges: &[u16], vertices: &[u16], rows: &mut [u16]) -> Resu
 
 /// Takes a base back to the two rows that yield it, of half as many darts; 22 where no two rows do. After a refusal
 /// both are as they were.
+///
+/// # Errors
+///
+/// 1, 2, 4, 5, 6, 7, 22.
 pub fn export(
     n: Dimension,
     darts: u16,
@@ -358,7 +429,7 @@ pub fn export(
     edges: &mut [u16],
     vertices: &mut [u16],
 ) -> Result<(), Refusal> {
-    // Safety: every pointer comes from a slice with its own length, and only exclusive ones are written through.
+    // SAFETY: every pointer comes from a slice with its own length, and only exclusive ones are written through.
     let answer = unsafe {
         raw::zg_export(
             n.0,

@@ -26,18 +26,29 @@ macro_rules! ask {
 /// tests what it needs.
 #[derive(Clone, Copy, Debug)]
 pub struct Pyramid<'a> {
+    /// n, 1 to 4.
     pub n: Dimension,
+    /// N, 1 to 4,096.
     pub darts: u16,
+    /// The height, 0 to 32.
     pub h: Level,
+    /// The involutions a0 to an of the base, row 0 first: (n+1)N entries.
     pub rows: &'a [u16],
+    /// Λ, N entries.
     pub lambda: &'a [u8],
+    /// Δ, N entries.
     pub delta: &'a [u8],
 }
 
 impl<'a> Pyramid<'a> {
     /// Checks the whole pyramid; accepted, the table holds the explicit level h.
+    ///
+    /// # Errors
+    ///
+    /// 1, 2, 3, 4, 5, 6, 7, 8, then for each kernel 9 and 10. After 9 or 10 the table holds the level whose kernel failed, after
+    /// any other number it is as it was.
     pub fn check(&self, table: &mut [u16]) -> Result<(), Refusal> {
-        // Safety: every pointer comes from a slice with its own length, and only the exclusive one is written through.
+        // SAFETY: every pointer comes from a slice with its own length, and only the exclusive one is written through.
         let answer = unsafe {
             raw::zg_check(
                 self.n.0,
@@ -58,8 +69,12 @@ impl<'a> Pyramid<'a> {
 
     /// Checks the whole pyramid and writes its record to the front of a buffer, with two bytes an entry; its length is
     /// answered. The table is left as [`Pyramid::check`] leaves it; a buffer too short is refused 4, after all others.
+    ///
+    /// # Errors
+    ///
+    /// 1 to 10 as [`Pyramid::check`], last 4 for a buffer that is too short; the buffer is then as it was.
     pub fn write(&self, table: &mut [u16], bytes: &mut [u8]) -> Result<usize, Refusal> {
-        // Safety: every pointer comes from a slice with its own length, and only exclusive ones are written through.
+        // SAFETY: every pointer comes from a slice with its own length, and only exclusive ones are written through.
         let answer = unsafe {
             raw::zg_write(
                 self.n.0,
@@ -82,8 +97,12 @@ impl<'a> Pyramid<'a> {
 
     /// Checks the whole pyramid; then, by which factor it shrinks from a level below h to the next. The table is left as
     /// [`Pyramid::check`] leaves it; a level of h or more is refused 11, after all others.
+    ///
+    /// # Errors
+    ///
+    /// 1 to 10 as [`Pyramid::check`], last 11 for a level of h or more.
     pub fn decimation(&self, table: &mut [u16], level: Level) -> Result<Factor, Refusal> {
-        // Safety: every pointer comes from a slice with its own length, and only the exclusive one is written through.
+        // SAFETY: every pointer comes from a slice with its own length, and only the exclusive one is written through.
         let answer = unsafe {
             raw::zg_decimation(
                 self.n.0,
@@ -109,13 +128,17 @@ impl<'a> Pyramid<'a> {
     /// Checks the whole pyramid and counts the cells of each level: `cells[l][i]` is the number of `i`-cells of level `l`
     /// and `sums[l]` their alternating sum; unused places are 0. The table is left as [`Pyramid::check`] leaves it; a
     /// refusal leaves counts and sums as they were.
+    ///
+    /// # Errors
+    ///
+    /// 1 to 10 as [`Pyramid::check`]; counts and sums are then as they were.
     pub fn census(
         &self,
         table: &mut [u16],
         cells: &mut [[u16; 5]; SUMS],
         sums: &mut [i32; SUMS],
     ) -> Result<(), Refusal> {
-        // Safety: every pointer comes from a slice with its own length or an array with its own, rows of an array of
+        // SAFETY: every pointer comes from a slice with its own length or an array with its own, rows of an array of
         // arrays lie one behind the other, and only exclusive ones are written through.
         let answer = unsafe {
             raw::zg_census(
@@ -141,8 +164,13 @@ impl<'a> Pyramid<'a> {
 
     /// One neighbour on a level by the direct walk, on any tables, checked before or not, and since which level the
     /// dart has had it.
+    ///
+    /// # Errors
+    ///
+    /// 1, 2, 3, 4, 11, 13, 12, then 8 and 12 of the dart asked, then at each read 15, 5, 8, 14. After an accepted check only 11,
+    /// 13 and 12 can come.
     pub fn read(&self, level: Level, involution: Dimension, dart: u16) -> Result<Link, Refusal> {
-        // Safety: every pointer comes from a slice with its own length.
+        // SAFETY: every pointer comes from a slice with its own length.
         let answer = unsafe { ask!(raw::zg_read, self, level, involution, dart) };
         answer.accepted().map(|r| Link {
             neighbour: r.neighbour,
@@ -152,13 +180,17 @@ impl<'a> Pyramid<'a> {
     }
 
     /// The same question answered level by level, each step a reading one level lower, down to the base.
+    ///
+    /// # Errors
+    ///
+    /// As [`Pyramid::read`]; 14 has another condition.
     pub fn read_by_levels(
         &self,
         level: Level,
         involution: Dimension,
         dart: u16,
     ) -> Result<Reading, Refusal> {
-        // Safety: every pointer comes from a slice with its own length.
+        // SAFETY: every pointer comes from a slice with its own length.
         let answer = unsafe { ask!(raw::zg_read_by_levels, self, level, involution, dart) };
         answer.accepted().map(|r| Reading {
             neighbour: r.neighbour,
@@ -168,8 +200,13 @@ impl<'a> Pyramid<'a> {
 
     /// Unfolds a whole level into the table; the total count of base entries read, and the latest level since which one
     /// of its links stands.
+    ///
+    /// # Errors
+    ///
+    /// 1, 2, 3, 4, 11, 8, then as the walks come 15, 5, 14. After an accepted check only 4 and 11 can come. After 15, 5 or 14
+    /// the table is [`crate::ABSENT`] throughout, after any other number as it was.
     pub fn unfold(&self, level: Level, table: &mut [u16]) -> Result<Unfolding, Refusal> {
-        // Safety: every pointer comes from a slice with its own length, and only the exclusive one is written through.
+        // SAFETY: every pointer comes from a slice with its own length, and only the exclusive one is written through.
         let answer = unsafe {
             raw::zg_unfold(
                 self.n.0,
@@ -193,6 +230,10 @@ impl<'a> Pyramid<'a> {
     }
 
     /// The mark row of a level, read back: [`crate::marks_of`].
+    ///
+    /// # Errors
+    ///
+    /// As [`crate::marks_of`].
     pub fn marks_of(&self, level: Level, marks: &mut [u8]) -> Result<(), Refusal> {
         crate::marks_of(
             self.n,
@@ -206,6 +247,10 @@ impl<'a> Pyramid<'a> {
     }
 
     /// A row of a level, a part of the base rows or of the unfolded level: [`crate::row`].
+    ///
+    /// # Errors
+    ///
+    /// As [`crate::row`].
     pub fn row<'b>(
         &self,
         unfolded: &'b [u16],
@@ -221,6 +266,10 @@ impl<'a> Pyramid<'a> {
     }
 
     /// The survivor words of a level, with the survivor count: [`crate::survivors`].
+    ///
+    /// # Errors
+    ///
+    /// As [`crate::survivors`].
     pub fn survivors(&self, level: Level, words: &mut [u64]) -> Result<u32, Refusal> {
         crate::survivors(self.darts, self.h, self.lambda, level, words)
     }

@@ -1,4 +1,14 @@
-//! The C interface as include/zompelgors.h declares it; what each function does and asks stands there.
+//! The C interface as include/zompelgors.h and `include/zompelgors_regions.h` declare it; what each function does and
+//! answers stands there. tests/interface.py of the project holds these declarations to the headers and to the proved
+//! sources, type by type.
+//!
+//! # Safety
+//!
+//! Of every function: each pointer is not null, aligned as its type asks, and good for as many entries as the length
+//! behind it says; memory behind a `*mut` overlaps no other memory lent to the same call, and nobody else reads or
+//! writes it during the call; memory behind a `*const` is not written by anybody during the call. Nothing else is
+//! asked: any numbers, lengths and contents are answered.
+#![allow(missing_docs)] // of fields, which the headers tell
 
 /// `zg_refusal`: all 0 where accepted.
 #[repr(C)]
@@ -48,10 +58,25 @@ answers! {
 }
 
 extern "C" {
+    /// The version of the archive.
+    ///
+    /// # Safety
+    ///
+    /// It is lent nothing.
     pub fn zg_version() -> u32;
 
+    /// Checks a base.
+    ///
+    /// # Safety
+    ///
+    /// As [the module](self#safety) says.
     pub fn zg_check_base(n: u8, darts: u16, rows: *const u16, rows_len: usize) -> ZgRefusal;
 
+    /// Checks a whole pyramid.
+    ///
+    /// # Safety
+    ///
+    /// As [the module](self#safety) says.
     pub fn zg_check(
         n: u8,
         darts: u16,
@@ -66,6 +91,11 @@ extern "C" {
         table_len: usize,
     ) -> ZgRefusal;
 
+    /// Adds a level on top.
+    ///
+    /// # Safety
+    ///
+    /// As [the module](self#safety) says.
     pub fn zg_add(
         n: u8,
         darts: u16,
@@ -82,6 +112,11 @@ extern "C" {
         table_len: usize,
     ) -> ZgHeight;
 
+    /// Reads the mark row of a level back.
+    ///
+    /// # Safety
+    ///
+    /// As [the module](self#safety) says.
     pub fn zg_marks_of(
         n: u8,
         darts: u16,
@@ -95,6 +130,11 @@ extern "C" {
         marks_len: usize,
     ) -> ZgRefusal;
 
+    /// Reads one neighbour on a level by the direct walk.
+    ///
+    /// # Safety
+    ///
+    /// As [the module](self#safety) says.
     pub fn zg_read(
         n: u8,
         darts: u16,
@@ -110,6 +150,11 @@ extern "C" {
         dart: u16,
     ) -> ZgLink;
 
+    /// Reads one neighbour level by level.
+    ///
+    /// # Safety
+    ///
+    /// As [the module](self#safety) says.
     pub fn zg_read_by_levels(
         n: u8,
         darts: u16,
@@ -125,6 +170,11 @@ extern "C" {
         dart: u16,
     ) -> ZgReading;
 
+    /// Unfolds a whole level.
+    ///
+    /// # Safety
+    ///
+    /// As [the module](self#safety) says.
     pub fn zg_unfold(
         n: u8,
         darts: u16,
@@ -140,6 +190,11 @@ extern "C" {
         table_len: usize,
     ) -> ZgUnfolding;
 
+    /// Says where a row of a level lies.
+    ///
+    /// # Safety
+    ///
+    /// As [the module](self#safety) says.
     pub fn zg_row(
         n: u8,
         darts: u16,
@@ -152,6 +207,11 @@ extern "C" {
         involution: u8,
     ) -> ZgPart;
 
+    /// The survivor words of a level.
+    ///
+    /// # Safety
+    ///
+    /// As [the module](self#safety) says.
     pub fn zg_survivors(
         darts: u16,
         h: u8,
@@ -162,6 +222,11 @@ extern "C" {
         words_len: usize,
     ) -> ZgCount;
 
+    /// Marks removable cells of one dimension on an explicit level.
+    ///
+    /// # Safety
+    ///
+    /// As [the module](self#safety) says.
     pub fn zg_mark_cells(
         n: u8,
         darts: u16,
@@ -172,6 +237,11 @@ extern "C" {
         marks_len: usize,
     ) -> ZgRefusal;
 
+    /// Takes a record into lent memory and checks its pyramid.
+    ///
+    /// # Safety
+    ///
+    /// As [the module](self#safety) says.
     pub fn zg_take(
         bytes: *const u8,
         bytes_len: usize,
@@ -185,6 +255,11 @@ extern "C" {
         table_len: usize,
     ) -> ZgRecord;
 
+    /// Writes the record of an accepted pyramid.
+    ///
+    /// # Safety
+    ///
+    /// As [the module](self#safety) says.
     pub fn zg_write(
         n: u8,
         darts: u16,
@@ -201,6 +276,11 @@ extern "C" {
         bytes_len: usize,
     ) -> ZgWritten;
 
+    /// How fast an accepted pyramid shrinks at a level.
+    ///
+    /// # Safety
+    ///
+    /// As [the module](self#safety) says.
     pub fn zg_decimation(
         n: u8,
         darts: u16,
@@ -216,6 +296,11 @@ extern "C" {
         level: u8,
     ) -> ZgFactor;
 
+    /// Counts the cells of each dimension of each level.
+    ///
+    /// # Safety
+    ///
+    /// As [the module](self#safety) says.
     pub fn zg_census(
         n: u8,
         darts: u16,
@@ -234,6 +319,11 @@ extern "C" {
         sums_len: usize,
     ) -> ZgRefusal;
 
+    /// Brings in a 2D combinatorial map.
+    ///
+    /// # Safety
+    ///
+    /// As [the module](self#safety) says.
     pub fn zg_import(
         m: u16,
         edges: *const u16,
@@ -244,6 +334,11 @@ extern "C" {
         rows_len: usize,
     ) -> ZgRefusal;
 
+    /// Takes a base back to the two rows that yield it.
+    ///
+    /// # Safety
+    ///
+    /// As [the module](self#safety) says.
     pub fn zg_export(
         n: u8,
         darts: u16,
@@ -255,6 +350,11 @@ extern "C" {
         vertices_len: usize,
     ) -> ZgRefusal;
 
+    /// Joins two kernels that follow each other.
+    ///
+    /// # Safety
+    ///
+    /// As [the module](self#safety) says.
     pub fn zg_join(
         n: u8,
         darts: u16,
@@ -270,6 +370,11 @@ extern "C" {
         level: u8,
     ) -> ZgHeight;
 
+    /// Starts again from a level.
+    ///
+    /// # Safety
+    ///
+    /// As [the module](self#safety) says.
     pub fn zg_rebase(
         n: u8,
         darts: u16,
@@ -286,4 +391,27 @@ extern "C" {
         old: *mut u16,
         old_len: usize,
     ) -> ZgBase;
+
+    /// Names the regions of a level: the second library.
+    ///
+    /// # Safety
+    ///
+    /// As [the module](self#safety) says.
+    #[cfg(feature = "regions")]
+    pub fn zg_regions(
+        n: u8,
+        darts: u16,
+        h: u8,
+        rows: *const u16,
+        rows_len: usize,
+        lambda: *const u8,
+        lambda_len: usize,
+        delta: *const u8,
+        delta_len: usize,
+        table: *mut u16,
+        table_len: usize,
+        level: u8,
+        names: *mut u16,
+        names_len: usize,
+    ) -> ZgRefusal;
 }

@@ -1,4 +1,4 @@
-//! Region names: the second library, for pyramids without contraction. include/zompelgors_regions.h says what is lent, in
+//! Region names: the second library, for pyramids without contraction. `include/zompelgors_regions.h` says what is lent, in
 //! which order the numbers of refusal are tested, and what a refusal leaves behind.
 //!
 //! ```
@@ -20,37 +20,23 @@
 //! ```
 use crate::answers::{Level, Refusal};
 use crate::pyramid::Pyramid;
-use crate::raw::ZgRefusal;
-
-extern "C" {
-    fn zg_regions(
-        n: u8,
-        darts: u16,
-        h: u8,
-        rows: *const u16,
-        rows_len: usize,
-        lambda: *const u8,
-        lambda_len: usize,
-        delta: *const u8,
-        delta_len: usize,
-        table: *mut u16,
-        table_len: usize,
-        level: u8,
-        names: *mut u16,
-        names_len: usize,
-    ) -> ZgRefusal;
-}
+use crate::raw::zg_regions;
 
 /// Checks the whole pyramid and names the regions of a level: every dart of the base gets the lowest one that it reaches
 /// in the base by a0 to a(n−1), and by an from darts with Λ below the level and Δ = n−1. The table is left as
 /// [`Pyramid::check`] leaves it.
+///
+/// # Errors
+///
+/// 1 to 10 as [`Pyramid::check`], 4 of the names too, then 11, then 23 with the first dart that is contracted; the names are
+/// then as they were.
 pub fn name_regions(
     pyramid: &Pyramid,
     table: &mut [u16],
     level: Level,
     names: &mut [u16],
 ) -> Result<(), Refusal> {
-    // Safety: every pointer comes from a slice with its own length, and only exclusive ones are written through.
+    // SAFETY: every pointer comes from a slice with its own length, and only exclusive ones are written through.
     let answer = unsafe {
         zg_regions(
             pyramid.n.0,

@@ -1,8 +1,9 @@
 //! The structs have the sizes, alignments and offsets that gcc gives those of include/zompelgors.h on x86-64.
 use std::mem::{align_of, size_of};
+use std::ptr::addr_of;
 use zompelgors::raw::{
-    ZgBase, ZgCount, ZgFactor, ZgHeight, ZgLink, ZgPart, ZgReading, ZgRecord, ZgRefusal, ZgUnfolding,
-    ZgWritten,
+    ZgBase, ZgCount, ZgFactor, ZgHeight, ZgLink, ZgPart, ZgReading, ZgRecord, ZgRefusal,
+    ZgUnfolding, ZgWritten,
 };
 
 fn layout<T>() -> (usize, usize) {
@@ -27,7 +28,7 @@ fn sizes_and_alignments() {
 macro_rules! offset {
     ($name:ident, $field:ident) => {{
         let value = $name::default();
-        &value.$field as *const _ as usize - &value as *const _ as usize
+        addr_of!(value.$field) as usize - addr_of!(value) as usize
     }};
 }
 

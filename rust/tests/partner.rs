@@ -1,4 +1,5 @@
 //! A partner's 2D combinatorial map brought in and taken back through the binding.
+#![cfg(feature = "alloc")]
 use zompelgors::{check_base, export, import, Dimension, PyramidBuf, Refusal};
 
 const TWO: Dimension = Dimension(2);

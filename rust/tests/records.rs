@@ -1,4 +1,6 @@
 //! Records taken through the binding: the star's, whole and cut short, and the pipe's.
+#![cfg(feature = "alloc")]
+#![allow(clippy::cast_possible_truncation)] // small numbers, written out here
 use std::{fs, path::Path};
 use zompelgors::{
     take, Dimension, Header, Level, Pyramid, PyramidBuf, Refusal, MOST_RECORD, SUMS, WORDS,
@@ -178,17 +180,39 @@ fn star_written() {
     assert_eq!(refusal.number, 4);
 }
 
+#[test]
+fn what_a_pyramid_says_of_itself() {
+    let (n, h) = (Dimension(2), Level(2));
+    let star = PyramidBuf::from_record(&sample()).unwrap();
+    assert_eq!((star.n(), star.darts(), star.height()), (n, 12, h));
+    assert_eq!(star.to_record(), Ok(sample()));
+    let mut grown = PyramidBuf::from_base(n, 12, star.lend().rows.to_vec()).unwrap();
+    let mut table = vec![0; grown.entries()];
+    let (mut marks, star) = ([0; 12], star.lend());
+    for level in [Level(0), Level(1)] {
+        assert_eq!(star.marks_of(level, &mut marks), Ok(()));
+        assert_eq!(grown.add(&marks, &mut table), Ok(Level(level.0 + 1)));
+    }
+    assert_eq!((grown.height(), grown.to_record()), (h, Ok(sample())));
+}
+
 /// Cells of each dimension and alternating sum of each level, as the program census prints them.
 #[test]
 fn pipe_census() {
     let pipe = PyramidBuf::from_record(&record("pipe")).unwrap();
     let (mut table, mut cells, mut sums) = (vec![0; pipe.entries()], [[9; 5]; SUMS], [9; SUMS]);
     assert_eq!(
-        pipe.lend().census(&mut table[1..], &mut cells, &mut sums).unwrap_err().number,
+        pipe.lend()
+            .census(&mut table[1..], &mut cells, &mut sums)
+            .unwrap_err()
+            .number,
         4
     );
     assert_eq!((cells, sums), ([[9; 5]; SUMS], [9; SUMS]));
-    assert_eq!(pipe.lend().census(&mut table, &mut cells, &mut sums), Ok(()));
+    assert_eq!(
+        pipe.lend().census(&mut table, &mut cells, &mut sums),
+        Ok(())
+    );
     let of_level = [
         ([32, 72, 52, 12, 0], 0),
         ([25, 65, 41, 6, 0], -5),

@@ -37,7 +37,10 @@ fn square() {
 #[test]
 fn refusals() {
     let refusal = names(&corners(), 3).unwrap_err();
-    assert_eq!(refusal.to_string(), "refused 11 3 0 0: the level asked is above the height");
+    assert_eq!(
+        refusal.to_string(),
+        "refused 11 3 0 0: the level asked is above the height"
+    );
     let contracted = Pyramid {
         h: Level(1),
         lambda: &[1, 1, 0, 0, 1, 1, 1, 1],

@@ -33,7 +33,16 @@ fn corners() -> Pyramid<'static> {
 #[test]
 fn joined_in_place() {
     let (mut lambda, mut table) = (LAMBDA, [0; 16]);
-    let height = join(ONE, 8, TWO_LEVELS, &SQUARE, &mut lambda, &DELTA, &mut table, Level(0));
+    let height = join(
+        ONE,
+        8,
+        TWO_LEVELS,
+        &SQUARE,
+        &mut lambda,
+        &DELTA,
+        &mut table,
+        Level(0),
+    );
     assert_eq!(height, Ok(Level(1)));
     assert_eq!(lambda, [1, 0, 0, 0, 0, 1, 1, 1]);
     let mut top = [0; 16];
@@ -44,7 +53,16 @@ fn joined_in_place() {
 #[test]
 fn nothing_joined_above_the_top() {
     let (mut lambda, mut table) = (LAMBDA, [0; 16]);
-    let height = join(ONE, 8, TWO_LEVELS, &SQUARE, &mut lambda, &DELTA, &mut table, Level(1));
+    let height = join(
+        ONE,
+        8,
+        TWO_LEVELS,
+        &SQUARE,
+        &mut lambda,
+        &DELTA,
+        &mut table,
+        Level(1),
+    );
     assert_eq!(height, Err(refused(11, 1, 0, 0)));
     assert_eq!(lambda, LAMBDA);
 }
@@ -54,9 +72,23 @@ fn started_again_in_place() {
     let (mut rows, mut lambda, mut delta) = (SQUARE, LAMBDA, DELTA);
     let (mut table, mut old) = ([0; 16], [9; 8]);
     let base = rebase(
-        ONE, 8, TWO_LEVELS, &mut rows, &mut lambda, &mut delta, &mut table, Level(1), &mut old,
+        ONE,
+        8,
+        TWO_LEVELS,
+        &mut rows,
+        &mut lambda,
+        &mut delta,
+        &mut table,
+        Level(1),
+        &mut old,
     );
-    assert_eq!(base, Ok(Base { darts: 6, h: Level(1) }));
+    assert_eq!(
+        base,
+        Ok(Base {
+            darts: 6,
+            h: Level(1)
+        })
+    );
     assert_eq!(rows[..6], [1, 0, 3, 2, 5, 4]);
     assert_eq!(rows[6..12], [5, 2, 1, 4, 3, 0]);
     assert_eq!(rows[12..], [ABSENT; 4]);
@@ -71,7 +103,15 @@ fn marks_of_a_level() {
     let answer = marks_of(ONE, 8, TWO_LEVELS, &LAMBDA, &DELTA, Level(1), &mut marks);
     assert_eq!(answer, Ok(()));
     assert_eq!(marks, [STAY, STAY, STAY, 0, 0, STAY, STAY, STAY]);
-    let answer = marks_of(ONE, 8, TWO_LEVELS, &LAMBDA, &DELTA[1..], Level(1), &mut marks);
+    let answer = marks_of(
+        ONE,
+        8,
+        TWO_LEVELS,
+        &LAMBDA,
+        &DELTA[1..],
+        Level(1),
+        &mut marks,
+    );
     assert_eq!(answer, Err(refused(4, 0, 0, 0)));
 }
 
@@ -101,7 +141,13 @@ fn one_passes_and_the_other_does_not() {
     let by_levels = torn.read_by_levels(Level(1), Dimension(0), 0);
     assert_eq!(by_levels, Err(refused(14, 1, 1, 2)));
     let whole = corners().read_by_levels(TWO_LEVELS, Dimension(0), 0);
-    assert_eq!(whole, Ok(Reading { neighbour: 5, count: 5 }));
+    assert_eq!(
+        whole,
+        Ok(Reading {
+            neighbour: 5,
+            count: 5
+        })
+    );
 }
 
 #[test]
@@ -115,8 +161,14 @@ fn an_unfolding_refused() {
         delta: &[1, 0],
     };
     let mut table = [9; 4];
-    assert_eq!(rounds.unfold(Level(2), &mut table), Err(refused(11, 2, 0, 0)));
+    assert_eq!(
+        rounds.unfold(Level(2), &mut table),
+        Err(refused(11, 2, 0, 0))
+    );
     assert_eq!(table, [9; 4]);
-    assert_eq!(rounds.unfold(Level(1), &mut table), Err(refused(15, 1, 0, 0)));
+    assert_eq!(
+        rounds.unfold(Level(1), &mut table),
+        Err(refused(15, 1, 0, 0))
+    );
     assert_eq!(table, [ABSENT; 4]);
 }

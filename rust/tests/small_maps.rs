@@ -1,4 +1,7 @@
 //! The small maps of docs/SCOPE.md, read through the binding.
+#![cfg(feature = "alloc")]
+#![allow(clippy::cast_possible_truncation)] // small numbers, written out here
+#![allow(clippy::unnecessary_wraps)] // answers that are due are written as the jobs give them
 use zompelgors::{
     add, check_base, mark_cells, row, survivors, Dimension, Factor, Level, Link, Pyramid,
     PyramidBuf, Refusal, Unfolding, ABSENT, STAY, WORDS,
@@ -192,7 +195,10 @@ fn corners_of_the_square_joined() {
     square.add(Dimension(0), &[1, 2]).unwrap();
     square.add(Dimension(0), &[3, 4]).unwrap();
     let top = square.table.clone();
-    assert_eq!(square.pyramid.join(Level(0), &mut square.table), Ok(Level(1)));
+    assert_eq!(
+        square.pyramid.join(Level(0), &mut square.table),
+        Ok(Level(1))
+    );
     assert_eq!(square.lend().lambda, [1, 0, 0, 0, 0, 1, 1, 1]);
     assert_eq!(square.table, top);
     assert_eq!(square.lend().check(&mut [0; 16]), Ok(()));
