@@ -1,9 +1,16 @@
 #!/usr/bin/env python3
-"""Makes the sample records: star.record (P8, P9); voxels.record, a block of 3 x 3 x 9 voxels with a cavity of one voxel
-(dimension 3, 80 cubes of 48 darts), with 12 removals: on each level a seeded choice of the removable cells of one
-dimension, faces, edges and vertices in turn; and pipe.record, a pipe of three rings of four blocks (dimension 3, 12
-cubes), with 4 kernels, each a seeded choice of faces to remove and of edges to contract.   python3 make.py"""
-import itertools, random
+"""Makes the sample records, in the folder that it lies in, or in the one that is named.   python3 make.py [FOLDER]
+
+Small maps of docs/SCOPE.md: star.record (P8, P9), segment.record (P1), square.record (C3, a vertex removed and then an
+edge contracted), and refused/open.record (P6), which is refused 10.
+
+voxels.record: a block of 3 x 3 x 9 voxels with a cavity of one voxel (dimension 3, 80 cubes of 48 darts), with 12
+removals: on each level a seeded choice of the removable cells of one dimension, faces, edges and vertices in turn.
+
+pipe.record: a pipe of three rings of four blocks (dimension 3, 12 cubes), with 4 kernels, each a seeded choice of faces
+to remove and of edges to contract."""
+import itertools, random, sys
+from pathlib import Path
 
 
 def record(n, h, rows, marks):
@@ -108,17 +115,33 @@ def pyramid(rows, n, kernels, share, seed):
     return lam, marks
 
 
-if __name__ == "__main__":
+def small_records():
+    """The records of small maps, each with n, h, its rows, and Λ and Δ."""
     star = [
         [6, 7, 8, 9, 10, 11, 0, 1, 2, 3, 4, 5],
         [5, 2, 1, 4, 3, 0, 7, 6, 9, 8, 11, 10],
         [1, 0, 3, 2, 5, 4, 7, 6, 9, 8, 11, 10],
     ]
-    marks = [1, 1, 0, 0, 1, 1, 2, 2, 0, 0, 2, 2], [0, 0, 1, 1, 0, 0, 2, 2, 1, 1, 2, 2]
-    open("star.record", "wb").write(record(2, 2, star, marks))
+    square = [[1, 0, 3, 2, 5, 4, 7, 6], [7, 2, 1, 4, 3, 6, 5, 0]]
+    opened = [[4, 5, 6, 7, 0, 1, 2, 3], [2, 1, 0, 3, 4, 5, 6, 7], [1, 0, 3, 2, 5, 4, 7, 6]]
+    edge = CONTRACT + 1
+    yield "star", record(2, 2, star, ([1, 1, 0, 0, 1, 1, 2, 2, 0, 0, 2, 2], [0, 0, 1, 1, 0, 0, 2, 2, 1, 1, 2, 2]))
+    yield "segment", record(1, 1, [[1, 0], [0, 1]], ([1, 0], [1, 0]))
+    yield "square", record(1, 2, square, ([1, 0, 0, 1, 2, 2, 2, 2], [edge, 0, 0, edge, 1, 1, 1, 1]))
+    yield "refused/open", record(2, 1, opened, ([0, 0, 0, 0, 1, 1, 1, 1], [0, 0, 0, 0, 2, 2, 2, 2]))
+
+
+def large_records():
     block = voxels((3, 3, 9), {(1, 1, 4)})
     faces_edges_vertices = [[2 - l % 3] for l in range(12)]
-    open("voxels.record", "wb").write(record(3, 12, block, pyramid(block, 3, faces_edges_vertices, 4, 1)))
+    yield "voxels", record(3, 12, block, pyramid(block, 3, faces_edges_vertices, 4, 1))
     pipe = voxels((4, 1, 3), ring=True)
     faces_and_edges = [[2, CONTRACT + 1]] * 4
-    open("pipe.record", "wb").write(record(3, 4, pipe, pyramid(pipe, 3, faces_and_edges, 5, 1)))
+    yield "pipe", record(3, 4, pipe, pyramid(pipe, 3, faces_and_edges, 5, 1))
+
+
+if __name__ == "__main__":
+    folder = Path(sys.argv[1]) if len(sys.argv) > 1 else Path(__file__).resolve().parent
+    (folder / "refused").mkdir(parents=True, exist_ok=True)
+    for name, made in itertools.chain(small_records(), large_records()):
+        (folder / f"{name}.record").write_bytes(made)
