@@ -25,6 +25,7 @@ use Rattle.maps.specs.AddLevel.{atRow8, number20, addLent, addHeight, ad
 use Rattle.maps.specs.MarksBack.{atMarks8, marksLent, marksLeaves}
 use Rattle.maps.specs.Read.{found, none, question, readLent, readSince, readLentByLevels}
 use Rattle.maps.specs.Unfold.{atWalk, unfoldLent, unfoldTotal, unfoldSince, unfoldLeaves}
+use Rattle.maps.specs.UnfoldAll.{stacked, byLevel, blocksLeft, unfoldAllLent, unfoldAllTables, unfoldAllCounts, unfoldAllSince}
 use Rattle.maps.specs.Row.{rowLent, rowPart}
 use Rattle.maps.specs.Survivors.{atLambda8, survivorsLent, word, survivorWords, survivorCount}
 use Rattle.maps.specs.MarkCells.{markLent}
@@ -179,6 +180,16 @@ pub record SmallJobs : Type 0 where
   pub unfold-14 : (unfoldLent unlike 1 (sevens 12) ≡ refused 14 1 2 2) × (unfoldLeaves unlike 1 (sevens 12) ≡ absents 12)
   pub unfold-15 :
       (unfoldLent endless 1 (sevens 4) ≡ refused 15 1 0 0) × (unfoldLeaves endless 1 (sevens 4) ≡ absents 4) × (unfoldTotal endless 1 (sevens 4) ≡ 0) × (unfoldSince endless 1 (sevens 4) ≡ 0)
+  -- unfold all levels: P4 has its three levels, P1 its two, with the counts and the levels since which of each; after 9 the blocks up to the level that failed, after 4 none
+  pub unfold-all :
+      (unfoldAllLent corners (sevens 48) (sevens 33) (sevens 33) ≡ accepted) × (unfoldAllTables corners (sevens 48) (sevens 33) (sevens 33) ≡ corners .rows ++ (corner-table ++ corners-table))
+      × (unfoldAllCounts corners (sevens 48) (sevens 33) (sevens 33) ≡ 16 ∷ 16 ∷ 16 ∷ replicate 30 0) × (unfoldAllSince corners (sevens 48) (sevens 33) (sevens 33) ≡ 0 ∷ 1 ∷ 2 ∷ replicate 30 0)
+      × (unfoldAllTables one (sevens 8) (sevens 33) (sevens 33) ≡ one .rows ++ one-table) × (unfoldAllCounts one (sevens 8) (sevens 33) (sevens 33) ≡ 4 ∷ 4 ∷ replicate 31 0)
+  pub unfold-all-refused :
+      (unfoldAllLent half-above (sevens 48) (sevens 33) (sevens 33) ≡ refused 9 1 1 3) × (unfoldAllTables half-above (sevens 48) (sevens 33) (sevens 33) ≡ corners .rows ++ (corner-table ++ sevens 16))
+      × (unfoldAllCounts half-above (sevens 48) (sevens 33) (sevens 33) ≡ sevens 33) × (unfoldAllSince half-above (sevens 48) (sevens 33) (sevens 33) ≡ sevens 33)
+      × (unfoldAllLent one (sevens 9) (sevens 33) (sevens 33) ≡ refused 4 0 0 0) × (unfoldAllTables one (sevens 9) (sevens 33) (sevens 33) ≡ sevens 9)
+      × (unfoldAllLent one (sevens 8) (sevens 32) (sevens 33) ≡ refused 4 0 0 0) × (unfoldAllLent one (sevens 8) (sevens 33) (sevens 32) ≡ refused 4 0 0 0)
   pub unfold-asked :
       (unfoldLent one 2 (sevens 4) ≡ refused 11 2 0 0) × (unfoldLeaves one 2 (sevens 4) ≡ sevens 4)
       × (unfoldLent (tooHigh 8) 1 (sevens 4) ≡ refused 8 1 0 0) × (unfoldLeaves (tooHigh 8) 1 (sevens 4) ≡ sevens 4)
@@ -269,7 +280,7 @@ pub record SmallJobs : Type 0 where
 
 -- by computation
 pub small-jobs : SmallJobs
-unfolding isMark between hasBeyond beyond scan count sum goOn removal listed explicit foldΛ foldΔ level number1 number2 number3 number4 number11 number13 sizes walkFrom walk sinceOf largest trailFrom trail since latest readBase overLevel readLevel byLevels reads cost at5 at6 at7 check5 check6 check7 checkMap at9 at10 check9 check10 checkKernel at8 check8 kernelAt checkKernels checkPyramid checkBase checkExplicit leftBehind checkLent checkLeaves atRow8 number20 addLent addHeight addLambda addDelta addLeaves atMarks8 marksLent marksLeaves question readLent readSince readLentByLevels atWalk unfoldLent unfoldTotal unfoldSince unfoldLeaves rowLent rowPart atLambda8 survivorsLent word onesIn ones survivorWords survivorCount markLent field formed recordRows recordLambda recordDelta recordLent takeLent takeRows takeLambda takeDelta takeTable fieldWritten inTwoBytes rowOf rowsWritten written writeLent writeLength writeTable writeLeaves convertLent convertLength convertLeaves decimationLent decimationEmpty decimationFactor decimationTable div ofInt round ofBits censusLent censusTable joinLent joinHeight joinLambda joinLeaves kth packed rebaseSizes rebaseLent rebaseDarts rebaseHeight rebaseRows rebaseLambda rebaseDelta rebaseOld rebaseTable regionsLent regionsTable number2M outside edgesBack had number21 importLent exportLent
+unfolding isMark between hasBeyond beyond scan count sum goOn removal listed explicit foldΛ foldΔ level number1 number2 number3 number4 number11 number13 sizes walkFrom walk sinceOf largest trailFrom trail since latest readBase overLevel readLevel byLevels reads cost at5 at6 at7 check5 check6 check7 checkMap at9 at10 check9 check10 checkKernel at8 check8 kernelAt checkKernels checkPyramid checkBase checkExplicit leftBehind checkLent checkLeaves atRow8 number20 addLent addHeight addLambda addDelta addLeaves atMarks8 marksLent marksLeaves question readLent readSince readLentByLevels atWalk unfoldLent unfoldTotal unfoldSince unfoldLeaves stacked byLevel blocksLeft unfoldAllLent unfoldAllTables unfoldAllCounts unfoldAllSince rowLent rowPart atLambda8 survivorsLent word onesIn ones survivorWords survivorCount markLent field formed recordRows recordLambda recordDelta recordLent takeLent takeRows takeLambda takeDelta takeTable fieldWritten inTwoBytes rowOf rowsWritten written writeLent writeLength writeTable writeLeaves convertLent convertLength convertLeaves decimationLent decimationEmpty decimationFactor decimationTable div ofInt round ofBits censusLent censusTable joinLent joinHeight joinLambda joinLeaves kth packed rebaseSizes rebaseLent rebaseDarts rebaseHeight rebaseRows rebaseLambda rebaseDelta rebaseOld rebaseTable regionsLent regionsTable number2M outside edgesBack had number21 importLent exportLent
 small-jobs = record {
   check-base = (refl, refl, refl, refl, refl, refl, refl, refl, refl, refl);
   check-explicit = (refl, refl, refl);
@@ -297,6 +308,8 @@ small-jobs = record {
   unfold-5 = (refl, refl);
   unfold-14 = (refl, refl);
   unfold-15 = (refl, refl, refl, refl);
+  unfold-all = (refl, refl, refl, refl, refl, refl);
+  unfold-all-refused = (refl, refl, refl, refl, refl, refl, refl, refl);
   unfold-asked = (refl, refl, refl, refl);
   row = (refl, refl, refl, refl, refl, refl);
   words = (refl, refl, refl, refl);

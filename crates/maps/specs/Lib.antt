@@ -25,6 +25,7 @@ pub mod Readded
 pub mod MarksBack
 pub mod Read
 pub mod Unfold
+pub mod UnfoldAll
 pub mod Row
 pub mod Survivors
 pub mod MarkCells
