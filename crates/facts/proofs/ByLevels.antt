@@ -78,3 +78,10 @@ module _ (a : Involutions) (n N h : ℕ) (Λ Δ : ℕ → ℕ) (y : Pyramid a n 
       let f : w .passes < 1 + 2 * N = omega (arith, own a n N h Λ Δ y l k .few i b li o, count-le (gone Λ l) N) in
       let z : 0 + suc (w .passes) ≡ suc (w .passes) = omega arith in
       answered i b l k (w .passes) i b e li (o .0) f (w .alike) .1 0 (omega arith) ∙ ap (ended i e) z ∙ sym (walk-course a n N h Λ Δ y l k i b li o)
+
+  -- a reading by levels that is short enough is the direct walk
+  pub reading-walk : (l : ℕ) → l ≤ h → (p t d e : ℕ) → t ≤ n → On N Λ l d → p < 1 + 2 * N → ByLevels a n N Λ (low Δ) (high Δ) l p t d e → walk a n N h Λ Δ l t d ≡ ended t e (suc p)
+  unfolding byLevels
+  reading-walk l k p t d e lt o f r =
+      let z : 0 + suc p ≡ suc p = omega arith in
+      sym (by-levels l k t d lt o) ∙ answered t d l k p t d e lt (o .0) f r .1 0 (omega arith) ∙ ap (ended t e) z

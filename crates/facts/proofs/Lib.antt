@@ -36,6 +36,7 @@ pub mod TowerJoins
 pub mod Pyramids
 pub mod Joining
 pub mod Links
+pub mod Carried
 pub mod LinkedJobs
 pub mod AcceptedWalks
 pub mod JoinedJobs

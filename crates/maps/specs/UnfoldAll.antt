@@ -1,10 +1,13 @@
 -- Unfold all levels in one call: the explicit levels one behind the other, each with what unfolding it counts. Assumes nothing: these are definitions.
-use mathlib.Core.Bool.{cond, _&&_, _||_}
+use mathlib.Core.Bool.{true, false, cond, _&&_, _||_}
 use mathlib.Core.List.{List, [], _++_}
-use Prim.Native.Nat.{ℕ, zero, suc, _*_}
+use Prim.Native.Nat.{ℕ, zero, suc, _+_, _*_}
 use lib.ListN.{drop}
 use lib.Dec.{eqb, ltb}
 use Rattle.maps.specs.Verdict.{Verdict, accepted, refused, ifAccepted, _then_}
+use Rattle.maps.specs.Map.{Involutions}
+use Rattle.maps.specs.Mark.{between}
+use Rattle.maps.specs.Removal.{marked}
 use Rattle.maps.specs.Sizes.{sizes, number4, hasLength}
 use Rattle.maps.specs.Table.{listed}
 use Rattle.maps.specs.Folded.{Folded, base, lambdaOf, deltaOf}
@@ -36,6 +39,20 @@ latestAt f l = unfoldSince f l (tableAt f l)
 unfoldable pub blocksLeft : ℕ → Verdict → ℕ
 blocksLeft h accepted = suc h
 blocksLeft h (refused number level involution dart) = cond (eqb number 9 || eqb number 10) (suc level) 0
+
+-- links of a level with their counts, and a kernel of it
+module _ (a : Involutions) (n : ℕ) (mark : ℕ → ℕ) (count : ℕ → ℕ → ℕ) where
+  -- Scope: 'Unfold all levels'. The counts of the links by which a removal goes on from a dart of dimension i, at most so many times: two at each.
+  unfoldable pub countsFrom : ℕ → ℕ → ℕ → ℕ
+  countsFrom zero i d = 0
+  countsFrom (suc times) i d = elim (marked a n mark i d) [
+    | true ↦ count (between (mark d) .1) d + (count i (a (between (mark d) .1) d) + countsFrom times i (a i (a (between (mark d) .1) d)))
+    | false ↦ 0
+  ]
+
+  -- Scope: 'Unfold all levels'. The counts of all links that the link of b by row i is made of on the next level.
+  unfoldable pub countsOf : ℕ → ℕ → ℕ → ℕ
+  countsOf N i b = count i b + countsFrom N i (a i b)
 
 module _ (f : Folded) (tables counts since : List ℕ) where
   open Folded f using (n, N, h, rows, lambda, delta)
