@@ -142,7 +142,7 @@ def one_record():
 
 def differences():
     """diff: the first place at which two records differ, known by hand."""
-    star = SAMPLES[1]
+    star, pipe = (ROOT / "samples" / f"{name}.record" for name in ("star", "pipe"))
     loose = list(range(12)) * 3
     other = FOLDER.put("other", record(2, 0, 12, loose, [0] * 12, [2] * 12))
     swapped = loose[:]
@@ -151,7 +151,7 @@ def differences():
     by_hand = [
         (star, star, 0, {"same": True, "level": None, "lambda": 0}),
         (other, third, 1, {"same": False, "level": 0, "row": 1, "dart": 4, "entries": [4, 5], "lambda": 0, "delta": 0}),
-        (SAMPLES[0], star, 1, {"n": [3, 2], "N": [576, 12]}),
+        (pipe, star, 1, {"same": False, "n": [3, 2], "N": [576, 12]}),
         (other, star, 1, {"level": 0, "row": 0, "dart": 0, "entries": [0, 6], "lambda": 8, "h": [0, 2]}),
     ]
     for one, two, status, due in by_hand:

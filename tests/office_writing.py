@@ -51,6 +51,10 @@ def full(folder):
             done = subprocess.run([*COMMAND, *map(str, call)], stdout=out, stderr=subprocess.PIPE)
             if done.returncode != 3 or b"can't be written" not in done.stderr:
                 yield f"{call}: status {done.returncode} on a full disk"
+        for status, call in ((2, ["levels", folder / "none"]), (2, ["nothing"]), (1, ["marks", STAR, "--level", 3])):
+            done = subprocess.run([*COMMAND, *map(str, call)], stdout=subprocess.PIPE, stderr=out)
+            if done.returncode != status or done.stdout:
+                yield f"{call}: status {done.returncode} and not {status} where the error stream is full"
     out = folder.put("out", "as it was")
     limit = lambda: resource.setrlimit(resource.RLIMIT_FSIZE, (100, 100))
     ran = zg("grid", "9x9", "-o", out, preexec_fn=limit, restore_signals=False)

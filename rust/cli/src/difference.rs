@@ -16,7 +16,9 @@ struct Place {
 /// Compares level by level, row by row, dart by dart; whether they differ is told beside the answer.
 pub fn diff(one: &Loaded, other: &Loaded) -> Result<(Answer, bool), Failure> {
     if (one.n(), one.darts()) != (other.n(), other.darts()) {
-        return Ok((sizes(one, other, "n or N differs, so no dart is compared"), true));
+        let mut answer = sizes(one, other, "n or N differs, so no dart is compared");
+        answer.fields.push(("same", Value::Truth(false)));
+        return Ok((answer, true));
     }
     let (mut first, mut lines) = (None, Table::new("levels", &["level", "entries", "darts"]));
     for level in 0..=one.h().min(other.h()) {

@@ -1,6 +1,6 @@
 //! Why a command ends without its answer, and its status.
 use crate::refusals::{self, Asked};
-use std::io;
+use std::io::{self, Write};
 use zompelgors::Refusal;
 
 /// What stands in the way of an answer.
@@ -56,6 +56,13 @@ impl Failure {
         }
     }
 
+    /// Says it on the error stream.
+    pub fn told(&self) {
+        if let Some(line) = self.line() {
+            tell(&format!("zompelgors: {line}\n"));
+        }
+    }
+
     /// A refusal of what a file holds, or of what was asked of it.
     pub fn refused(file: &str, refusal: Refusal, asked: &Asked) -> Failure {
         Failure::Refused(Refused {
@@ -72,6 +79,11 @@ impl Failure {
             _ => Failure::Unwritten(format!("{file} can't be written: {}", reason(error))),
         }
     }
+}
+
+/// Says something on the error stream. Where that can't be written either, the status is all that is left to tell it.
+pub fn tell(words: &str) {
+    let _ = io::stderr().write_all(words.as_bytes());
 }
 
 /// What the system says, without the number behind it.

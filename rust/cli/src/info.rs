@@ -1,10 +1,9 @@
 //! What records are, many at a time: a line for each, accepted or refused.
 use crate::answer::{count, text, Answer, Form, Table, Value};
 use crate::ask::{factor, sizes};
-use crate::failure::Failure;
+use crate::failure::{tell, Failure};
 use crate::records::Loaded;
 use std::fs;
-use std::io::Write;
 use zompelgors::{Level, CONTRACT};
 
 /// From so many files on a bar shows how far it is.
@@ -29,7 +28,7 @@ fn look(files: &[String]) -> Found {
     }
     if bar {
         // The bar goes when it has served.
-        eprint!("\r{:width$}\r", "", width = BAR + 24);
+        tell(&format!("\r{:width$}\r", "", width = BAR + 24));
     }
     found
 }
@@ -42,9 +41,11 @@ fn at_terminal() -> bool {
 
 fn show(done: usize, all: usize) {
     let full = BAR * done / all;
-    eprint!("\r[{}{}] {done} of {all}", "#".repeat(full), ".".repeat(BAR - full));
-    // It is only a bar: whether it is seen changes no answer.
-    let _ = std::io::stderr().flush();
+    tell(&format!(
+        "\r[{}{}] {done} of {all}",
+        "#".repeat(full),
+        ".".repeat(BAR - full)
+    ));
 }
 
 /// The highest status of all files.

@@ -33,7 +33,7 @@ fn main() -> ExitCode {
     let ended = match call::command().try_get_matches() {
         Ok(matches) => answered(&matches),
         Err(error) if error.use_stderr() => {
-            eprint!("{error}");
+            failure::tell(&error.to_string());
             2
         }
         Err(help) => ended(Ok((help.to_string(), 0)), None),
@@ -57,9 +57,7 @@ fn ended(outcome: Outcome, refused_as_json: Option<()>) -> u8 {
     let (printed, status) = match outcome {
         Ok(found) => found,
         Err(failure) => {
-            if let Some(line) = failure.line() {
-                eprintln!("zompelgors: {line}");
-            }
+            failure.told();
             let json = refused_as_json.and_then(|()| as_json(&failure));
             (json.unwrap_or_default(), failure.status())
         }
@@ -67,9 +65,7 @@ fn ended(outcome: Outcome, refused_as_json: Option<()>) -> u8 {
     match files::print(printed.as_bytes()) {
         Ok(()) => status,
         Err(failure) => {
-            if let Some(line) = failure.line() {
-                eprintln!("zompelgors: {line}");
-            }
+            failure.told();
             failure.status()
         }
     }
