@@ -101,17 +101,17 @@ module _ (P : Folded) (row table : List ℕ) where
   -- refused by 1 to 4 or 20, by 5 to 8, or as the kernels say
   pub sizes-refused : (r : Refusal) → refusalOf r ≡ S → Leaves (refusalOf r) h lambda delta table
   unfolding addLeaves
-  sizes-refused r e = refused-kept r (at-sizes top tables table job S M K parts sizes-early marks-early (ascends-late n N h rows lambda delta row) r e)
+  sizes-refused r e = refused-kept r (at-sizes top tables table job S M K parts sizes-early marks-early (ascends-late P row) r e)
 
   module _ (sized : accepted ≡ S) where
     pub marks-refused : (r : Refusal) → refusalOf r ≡ M → Leaves (refusalOf r) h lambda delta table
     unfolding addLeaves
-    marks-refused r e = refused-kept r (at-marks top tables table job S M K parts sizes-early marks-early (ascends-late n N h rows lambda delta row) sized r e)
+    marks-refused r e = refused-kept r (at-marks top tables table job S M K parts sizes-early marks-early (ascends-late P row) sized r e)
 
     module _ (marked : accepted ≡ M) {after : List ℕ} (leaves : after ≡ ascendLeaves P row) where
       at-end : {v : Verdict} → v ≡ K → (v ≡ job) × (after ≡ addLeaves P row table)
       unfolding addLeaves
-      at-end e = at-kernels top tables table job S M K parts sizes-early marks-early (ascends-late n N h rows lambda delta row) sized marked rows e leaves
+      at-end e = at-kernels top tables table job S M K parts sizes-early marks-early (ascends-late P row) sized marked rows e leaves
 
       pub ascend-refused : (r : Refusal) → refusalOf r ≡ K → Leaves (refusalOf r) h lambda delta after
       ascend-refused r e = refused-kept r (at-end e)

@@ -12,7 +12,7 @@ use Rattle.maps.specs.Map.{Involutions}
 use Rattle.maps.specs.Mark.{isMark}
 use Rattle.maps.specs.Removal.{removal}
 use Rattle.maps.specs.Table.{entry, each, listed}
-use Rattle.maps.specs.Folded.{survives, marks, addΛ, addΔ, level, levelTable, ofParts}
+use Rattle.maps.specs.Folded.{survives, marks, addΛ, addΔ, level, levelTable, ofParts, Folded, base, lambdaOf, deltaOf}
 use Rattle.maps.specs.MarkRow.{Row}
 use Rattle.maps.specs.Check.{checkKernel, kernelAt, checkKernels}
 use Rattle.maps.specs.CheckPyramid.{leftBehind}
@@ -30,12 +30,12 @@ then-same accepted w u h = h refl
 then-same (refused k l i d) w u h = refl
 
 -- kernels below h and the mark row are refused with 9 or 10, and a level up to h
-pub ascends-late : (n N h : ℕ) (rows lambda delta row : List ℕ) → Says (Late (λ x. x ≤ h)) (ascends (ofParts n N h rows lambda delta) row)
-ascends-late n N h rows lambda delta row =
-    let low = climbs n N h rows lambda delta in
-    let last = checkKernel (level (entry N rows) n N (marks h (each lambda) (each delta)) h) n N (each row) h in
-    says-then low last (says-more (λ k l p. (p .0, omega (arith, p .1))) low (kernels-late (entry N rows) n N h (each lambda) (each delta)))
-    (says-more (λ k l p. (p .0, omega (arith, p .1))) last (kernel-late (level (entry N rows) n N (marks h (each lambda) (each delta)) h) n N (each row) h))
+pub ascends-late : (P : Folded) (row : List ℕ) → Says (Late (λ x. x ≤ P .h)) (ascends P row)
+ascends-late P row =
+    let low = climbs P in
+    let last = checkKernel (level (base P) (P .n) (P .N) (marks (P .h) (lambdaOf P) (deltaOf P)) (P .h)) (P .n) (P .N) (each row) (P .h) in
+    says-then low last (says-more (λ k l p. (p .0, omega (arith, p .1))) low (kernels-late (base P) (P .n) (P .N) (P .h) (lambdaOf P) (deltaOf P)))
+    (says-more (λ k l p. (p .0, omega (arith, p .1))) last (kernel-late (level (base P) (P .n) (P .N) (marks (P .h) (lambdaOf P) (deltaOf P)) (P .h)) (P .n) (P .N) (each row) (P .h)))
 
 -- what is left is the same where the tables that it can be are
 left-same : (h : ℕ) (top top′ : List ℕ) (levels levels′ : ℕ → List ℕ) (found : List ℕ) (v : Verdict) → Says (Late (λ x. x ≤ h)) v → (v ≡ accepted → top ≡ top′) → ((l : ℕ) → l ≤ h → levels l ≡ levels′ l) → leftBehind top levels found v ≡ leftBehind top′ levels′ found v
@@ -47,8 +47,10 @@ left-same h top top′ levels levels′ found _ (says k l i d p) t s = rw (p .0)
 past : (row : List ℕ) (N d : ℕ) → length row ≡ N → N ≤ d → each row d ≡ 0
 past row N d long l = List·getD-eq-default row 0 (omega arith)
 
-module _ {n N h : ℕ} {rows lambda delta new-lambda new-delta : List ℕ} (row : List ℕ) (b : Base n N h rows lambda delta) (low : h ≤ 32) (k : Row n N h (each lambda) (each row))
-    (is-Λ : new-lambda ≡ listed (addΛ n h (each lambda) (each row)) N) (is-Δ : new-delta ≡ listed (addΔ n (each delta) (each row)) N) where
+module _ {P : Folded} {new-lambda new-delta : List ℕ} (row : List ℕ) (b : Base P) (low : P .h ≤ 32) (k : Row (P .n) (P .N) (P .h) (lambdaOf P) (each row))
+    (is-Λ : new-lambda ≡ listed (addΛ (P .n) (P .h) (lambdaOf P) (each row)) (P .N)) (is-Δ : new-delta ≡ listed (addΔ (P .n) (deltaOf P) (each row)) (P .N)) where
+  open Folded P using (n, N, h, rows, lambda, delta)
+
   abbrev a : Involutions
   a = entry N rows
 
@@ -76,7 +78,7 @@ module _ {n N h : ℕ} {rows lambda delta new-lambda new-delta : List ℕ} (row 
   long-Δ : length new-delta ≡ N
   long-Δ = ap length is-Δ ∙ length-listed (addΔ n Δ (each row)) N
 
-  added-base : Base n N (suc h) rows new-lambda new-delta
+  added-base : Base (ofParts n N (suc h) rows new-lambda new-delta)
   added-base = record {
     dimension = b .dimension;
     darts = b .darts;
@@ -128,12 +130,12 @@ module _ {n N h : ℕ} {rows lambda delta new-lambda new-delta : List ℕ} (row 
       rw (level-kept l f)
       (explicit-same (level a n N (marks (suc h) Λ′ Δ′) l) (level a n N (marks (suc h) Λ′ Δ′) l) n N (survives Λ′ l) (survives Λ l) (λ d ld. sym (survives-kept l d f ld)) (λ i d li ld q. refl))
 
-  scan-kept : scan h (kernelAt a n N (suc h) Λ′ Δ′) ≡ climbs n N h rows lambda delta
+  scan-kept : scan h (kernelAt a n N (suc h) Λ′ Δ′) ≡ climbs P
   unfolding checkKernels
   scan-kept = scan-same h (kernelAt a n N (suc h) Λ′ Δ′) (kernelAt a n N h Λ Δ) kernel-kept
 
   -- the kernels below h are accepted
-  module _ (checked : climbs n N h rows lambda delta ≡ accepted) where
+  module _ (checked : climbs P ≡ accepted) where
     scanned : scan h (kernelAt a n N h Λ Δ) ≡ accepted
     unfolding checkKernels
     scanned = checked
@@ -145,30 +147,30 @@ module _ {n N h : ℕ} {rows lambda delta new-lambda new-delta : List ℕ} (row 
         sym (ap (λ (A : Involutions). checkKernel A n N (marks (suc h) Λ′ Δ′ h) h) (level-kept h (omega arith))) ∙ sym (check (marks (suc h) Λ′ Δ′ h) new) ∙ check (each row) (λ d ld. refl)
 
     -- and so is the mark row
-    top-is : checkKernel (level a n N (marks h Λ Δ) h) n N (each row) h ≡ accepted → levelTable a n N (suc h) Λ′ Δ′ (suc h) ≡ newTop (ofParts n N h rows lambda delta) row
+    top-is : checkKernel (level a n N (marks h Λ Δ) h) n N (each row) h ≡ accepted → levelTable a n N (suc h) Λ′ Δ′ (suc h) ≡ newTop P row
     top-is accept =
         let c = added-base in
         let next = next-table a n N (suc h) Λ′ Δ′ (c .dimension) (c .darts) (c .valid) (c .allowed) h (omega arith) (scan-kept ∙ checked) (omega arith) (each row) new (last-is ∙ accept) in
         let top = top-table a n N h Λ Δ (b .dimension) (b .darts) (b .valid) (b .allowed) checked (each row) k accept (each row) (λ d ld. refl) in
         sym (rw (table-kept h (omega arith)) at next) ∙ top
 
-  climbs-is : climbs n N (suc h) rows new-lambda new-delta ≡ ascends (ofParts n N h rows lambda delta) row
+  climbs-is : climbs (ofParts n N (suc h) rows new-lambda new-delta) ≡ ascends P row
   unfolding checkKernels scan
-  climbs-is = rw scan-kept (then-same (climbs n N h rows lambda delta) (kernelAt a n N (suc h) Λ′ Δ′ h) (checkKernel (level a n N (marks h Λ Δ) h) n N (each row) h) last-is)
+  climbs-is = rw scan-kept (then-same (climbs P) (kernelAt a n N (suc h) Λ′ Δ′ h) (checkKernel (level a n N (marks h Λ Δ) h) n N (each row) h) last-is)
 
-  leaves-is : climbLeaves n N (suc h) rows new-lambda new-delta ≡ ascendLeaves (ofParts n N h rows lambda delta) row
+  leaves-is : climbLeaves (ofParts n N (suc h) rows new-lambda new-delta) ≡ ascendLeaves P row
   leaves-is =
-      let low = climbs n N h rows lambda delta in
+      let low = climbs P in
       let last = checkKernel (level a n N (marks h Λ Δ) h) n N (each row) h in
       let top = levelTable a n N (suc h) Λ′ Δ′ (suc h) in
       ap (leftBehind top (levelTable a n N (suc h) Λ′ Δ′) rows) climbs-is
-      ∙ left-same h top (newTop (ofParts n N h rows lambda delta) row) (levelTable a n N (suc h) Λ′ Δ′) (levelTable a n N h Λ Δ) rows (ascends (ofParts n N h rows lambda delta) row) (ascends-late n N h rows lambda delta row)
+      ∙ left-same h top (newTop P row) (levelTable a n N (suc h) Λ′ Δ′) (levelTable a n N h Λ Δ) rows (ascends P row) (ascends-late P row)
       (λ e. let s = then-accepted low last e in top-is (s .0) (s .1)) table-kept
 
   -- as the code has it, with the new height
   module _ {new-h : ℕ} (grown : new-h ≡ suc h) where
-    pub ascend-base : Base n N new-h rows new-lambda new-delta
+    pub ascend-base : Base (ofParts n N new-h rows new-lambda new-delta)
     ascend-base = rw grown added-base
 
-    pub ascend-risen : {v : Verdict} {after : List ℕ} → v ≡ climbs n N new-h rows new-lambda new-delta → after ≡ climbLeaves n N new-h rows new-lambda new-delta → (v ≡ ascends (ofParts n N h rows lambda delta) row) × (after ≡ ascendLeaves (ofParts n N h rows lambda delta) row)
+    pub ascend-risen : {v : Verdict} {after : List ℕ} → v ≡ climbs (ofParts n N new-h rows new-lambda new-delta) → after ≡ climbLeaves (ofParts n N new-h rows new-lambda new-delta) → (v ≡ ascends P row) × (after ≡ ascendLeaves P row)
     ascend-risen e f = ((rw grown at e) ∙ climbs-is, (rw grown at f) ∙ leaves-is)

@@ -9,7 +9,7 @@ use borrow.Author.Tests.{eq-eqb, eqb-true}
 use Rattle.maps.specs.Verdict.{Verdict, accepted, _then_}
 use Rattle.maps.specs.Sizes.{number1, number2, number3, sizes, number4, hasLength}
 use Rattle.maps.specs.Table.{entry, each}
-use Rattle.maps.specs.Folded.{refusedMarks, ofParts, Folded}
+use Rattle.maps.specs.Folded.{refusedMarks, Folded}
 use Rattle.maps.specs.Check.{checkMap, at8, check8, checkPyramid}
 use Rattle.maps.specs.CheckBase.{checkBase}
 use Rattle.maps.specs.CheckPyramid.{checkLent, tableAt, checkLeaves}
@@ -77,7 +77,7 @@ module _ (P : Folded) (table : List ℕ) where
   marks-early-all = says-then (checkMap (entry N rows) n N (λ d. true)) (check8 n N h (each lambda) (each delta)) (map-early (entry N rows) n N (λ d. true)) (marks-early (entry N rows) n N h (each lambda) (each delta))
 
   -- the base is valid and the marks are allowed
-  pub based : Lent P table → baseAndMarks P ≡ accepted → Base n N h rows lambda delta
+  pub based : Lent P table → baseAndMarks P ≡ accepted → Base P
   unfolding at8 check8
   based p e =
       let s = then-accepted (checkMap (entry N rows) n N (λ d. true)) (check8 n N h (each lambda) (each delta)) e in
@@ -100,14 +100,14 @@ module _ (P : Folded) (table : List ℕ) where
   M = baseAndMarks P
 
   abbrev K : Verdict
-  K = climbs n N h rows lambda delta
+  K = climbs P
 
   parts : checkLent P table ≡ (S then (M then K))
   unfolding checkLent checkPyramid
   parts = simp then-two
 
   -- an accepted check has passed them all
-  pub check-passed : checkLent P table ≡ accepted → Lent P table × Base n N h rows lambda delta × (K ≡ accepted)
+  pub check-passed : checkLent P table ≡ accepted → Lent P table × Base P × (K ≡ accepted)
   check-passed e =
       let s = then-accepted S (M then K) (sym parts ∙ e) in
       let t = then-accepted M K (s .1) in
@@ -132,6 +132,6 @@ module _ (P : Folded) (table : List ℕ) where
   unfolding checkLeaves
   check-marks = at-marks (T h) T table (checkLent P table) S M K parts (lengths-early n N h exact) marks-early-all (kernels-late (entry N rows) n N h (each lambda) (each delta))
 
-  pub check-climbed : accepted ≡ S → accepted ≡ M → {v : Verdict} {after : List ℕ} → v ≡ K → after ≡ climbLeaves n N h rows lambda delta → Answers v after
+  pub check-climbed : accepted ≡ S → accepted ≡ M → {v : Verdict} {after : List ℕ} → v ≡ K → after ≡ climbLeaves P → Answers v after
   unfolding checkLeaves
   check-climbed f g e = at-kernels (T h) T table (checkLent P table) S M K parts (lengths-early n N h exact) marks-early-all (kernels-late (entry N rows) n N h (each lambda) (each delta)) f g rows e

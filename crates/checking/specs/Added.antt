@@ -29,7 +29,7 @@ addMarks f row = baseAndMarks f then rowMarks (f .n) (f .N) (f .h) (f .lambda) r
 
 -- 9 10 of the kernels below h, then of the mark row as kernel h
 abbrev pub ascends : Folded → List ℕ → Verdict
-ascends f row = climbs (f .n) (f .N) (f .h) (f .rows) (f .lambda) (f .delta) then checkKernel (level (base f) (f .n) (f .N) (marks (f .h) (lambdaOf f) (deltaOf f)) (f .h)) (f .n) (f .N) (each row) (f .h)
+ascends f row = climbs f then checkKernel (level (base f) (f .n) (f .N) (marks (f .h) (lambdaOf f) (deltaOf f)) (f .h)) (f .n) (f .N) (each row) (f .h)
 
 -- the explicit table of the new top level
 abbrev pub newTop : Folded → List ℕ → List ℕ

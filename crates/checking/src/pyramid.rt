@@ -75,15 +75,7 @@ pub fn check(sizes: Sizes, rows: &[u16], lambda: &[u8], delta: &[u8], table: &mu
     if let Check::Refused(r) = base_and_marks(sizes, rows, lambda, delta) {
         return Check::Refused(r);
     }
-    climbing::rise(
-        sizes.n,
-        sizes.darts as usize,
-        sizes.h,
-        rows,
-        lambda,
-        delta,
-        table,
-    )
+    climbing::rise(sizes, rows, lambda, delta, table)
 }
 
 // The new height, or a refusal.
@@ -260,7 +252,7 @@ fn ascend(
     row: &[u8],
     table: &mut [u16],
 ) -> Check
-    requires { ⌜ Base (sizes .n .0) (sizes .darts) (sizes .h .0) (now rows) (now lambda) (now delta) × (sizes .h .0 ≤ 32) × (length (now table) ≡ length (now rows)) ⌝ }
+    requires { ⌜ Base (lent sizes rows lambda delta) × (sizes .h .0 ≤ 32) × (length (now table) ≡ length (now rows)) ⌝ }
     requires { ⌜ (length (now row) ≡ sizes .darts) × Row (sizes .n .0) (sizes .darts) (sizes .h .0) (each (now lambda)) (each (now row)) ⌝ }
     ensures verdict { λ r. ⌜ verdictOf r ≡ ascends (lent sizes (rows .entry) (lambda .entry) (delta .entry)) (now (row .entry)) ⌝ }
     ensures table_left { λ _. ⌜ now (table .exit) ≡ ascendLeaves (lent sizes (rows .entry) (lambda .entry) (delta .entry)) (now (row .entry)) ⌝ }
@@ -278,11 +270,13 @@ fn ascend(
         &mut new_lambda[..width],
         &mut new_delta[..width],
     );
-    let next = Level(sizes.h.0 + 1);
+    let grown = Sizes {
+        n: Dim(sizes.n.0),
+        h: Level(sizes.h.0 + 1),
+        darts,
+    };
     climbing::rise(
-        sizes.n,
-        width,
-        next,
+        grown,
         rows,
         &new_lambda[..width],
         &new_delta[..width],

@@ -10,7 +10,7 @@ use borrow.Author.Tests.{lt-ltb, eqb-true}
 use Rattle.maps.specs.Verdict.{accepted, refused, scan}
 use Rattle.maps.specs.Mark.{isMark}
 use Rattle.maps.specs.Table.{entry, each}
-use Rattle.maps.specs.Folded.{marks, survives, level, levelTable}
+use Rattle.maps.specs.Folded.{marks, survives, level, levelTable, Folded, lambdaOf, deltaOf}
 use Rattle.maps.specs.Check.{checkKernel, kernelAt}
 use Rattle.maps.specs.CheckPyramid.{leftBehind}
 use Rattle.laws.proofs.Verdicts.{scan-first, scan-more}
@@ -23,30 +23,36 @@ use Rattle.answers.proofs.Refusals.{refusal-refuses, refusal-keeps}
 use Rattle.kernels.specs.Strings.{kernelRow, Linked, Marks, Strung}
 use Rattle.kernels.specs.Ready.{Tested, removedFrom, stepLeaves}
 use Rattle.kernels.proofs.Strung.{in-kernel, first-same}
-use Rattle.climbing.specs.Climb.{Base, climbsTo, climbToLeaves}
+use Rattle.climbing.specs.Climb.{Base, climbsTo, climbToLeaves, Climbed}
 use Rattle.climbing.proofs.Verdicts.{kernel-late, late-leaves}
 
--- kernels 0 to l−1 are accepted and removed
-pub record Climbed (n N h : ℕ) (rows lambda delta table : List ℕ) (l : ℕ) : Type 0 where
-  pub base : Base n N h rows lambda delta
-  pub low : l ≤ h
-  pub checked : scan l (kernelAt (entry N rows) n N h (each lambda) (each delta)) ≡ accepted
-  pub holds : table ≡ levelTable (entry N rows) n N h (each lambda) (each delta) l
-
-pub climb-none : {n N h : ℕ} {rows lambda delta table : List ℕ} → Base n N h rows lambda delta → table ≡ rows → Climbed n N h rows lambda delta table 0
+pub climb-none : {f : Folded} {head next table : List ℕ} → Base f → Linked (length (f .lambda)) (lambdaOf f) 0 head next → table ≡ f .rows → Climbed f 0 head next table
 unfolding scan
-climb-none {n} {N} {h} {rows} {lambda} {delta} b copied = record { base = b; low = omega arith; checked = refl; holds = copied ∙ base-table n N h rows (each lambda) (each delta) (b .rows-long) }
+climb-none {f} b linked copied = record {
+  base = b;
+  low = omega arith;
+  checked = refl;
+  holds = copied ∙ base-table (f .n) (f .N) (f .h) (f .rows) (lambdaOf f) (deltaOf f) (b .rows-long);
+  strung = rw (b .lambda-long) at linked;
+}
 
-module _ {n N h : ℕ} {rows lambda delta table : List ℕ} {l : ℕ} (c : Climbed n N h rows lambda delta table l) where
+module _ {P : Folded} {l : ℕ} {head next table : List ℕ} (c : Climbed P l head next table) where
+  open Folded P using (n, N, h, rows, lambda, delta)
+
   pub climb-long : length table ≡ length rows
   climb-long = ap length (c .holds) ∙ length-explicit (level (entry N rows) n N (marks h (each lambda) (each delta)) l) n N (survives (each lambda) l) ∙ sym (c .base .rows-long)
 
   -- all kernels below a level
-  pub climb-all : (top : ℕ) → l ≡ top → (accepted ≡ climbsTo n N h rows lambda delta top) × (table ≡ climbToLeaves n N h rows lambda delta top)
+  pub climb-all : (top : ℕ) → l ≡ top → (accepted ≡ climbsTo P top) × (table ≡ climbToLeaves P top)
   unfolding leftBehind
   climb-all top e =
-      let all : climbsTo n N h rows lambda delta top ≡ accepted = rw e at (c .checked) in
+      let all : climbsTo P top ≡ accepted = rw e at (c .checked) in
       (sym all, rw all (rw e at (c .holds)))
+
+  -- a climb that goes on to level `top` and is accepted has climbed to it
+  pub climb-reached : {top : ℕ} {after : List ℕ} → top ≤ h → accepted ≡ climbsTo P top → after ≡ climbToLeaves P top → Climbed P top head next after
+  unfolding leftBehind
+  climb-reached low e leaves = record { base = c .base; low = low; checked = sym e; holds = leaves ∙ rw (← e); strung = c .strung }
 
   -- kernel l
   module _ (f : l < h) where
@@ -58,8 +64,9 @@ module _ {n N h : ℕ} {rows lambda delta table : List ℕ} {l : ℕ} (c : Climb
         let b = c .base in
         record { lambda-long = b .lambda-long; delta-long = b .delta-long; marked = λ d ld q. allowed-small n h (each lambda) (each delta) d (b .allowed d ld) (omega arith) }
 
-    pub climb-strung : {head next : List ℕ} → Linked N (each lambda) 0 head next → {first : ℕ} → first ≡ each head l → Strung n N l first lambda delta next
-    climb-strung w e =
+    pub climb-strung : {first : ℕ} → first ≡ each head l → Strung n N l first lambda delta next
+    climb-strung e =
+        let w = c .strung in
         let z = c .base .height in
         let same = in-kernel kernel-marks (c .base .dimension) in
         record { marks = kernel-marks; string = record { start = rw e (first-same same (w .heads l (omega arith))); onward = λ d ld q. first-same same (rw (kernel-of d ld q) at (w .onward d (omega arith) ld)) } }
@@ -93,7 +100,7 @@ module _ {n N h : ℕ} {rows lambda delta table : List ℕ} {l : ℕ} (c : Climb
         rw (c .holds) (row-check (entry N rows) n N h (each lambda) (each delta) (b .dimension) (b .darts) (b .valid) (b .allowed) l (c .low) (c .checked) row marked-above (marks h (each lambda) (each delta) l) row-is)
 
     module _ {after : List ℕ} (leaves : after ≡ stepLeaves n N l row table) where
-      pub climb-refused : (top : ℕ) → l < top → (r : Refusal) → refusalOf r ≡ checkKernel (entry N table) n N row l → (refusalOf r ≡ climbsTo n N h rows lambda delta top) × (after ≡ climbToLeaves n N h rows lambda delta top)
+      pub climb-refused : (top : ℕ) → l < top → (r : Refusal) → refusalOf r ≡ checkKernel (entry N table) n N row l → (refusalOf r ≡ climbsTo P top) × (after ≡ climbToLeaves P top)
       unfolding kernelAt
       climb-refused top g r e =
           let v = kernelAt (entry N rows) n N h (each lambda) (each delta) in
@@ -108,7 +115,7 @@ module _ {n N h : ℕ} {rows lambda delta table : List ℕ} {l : ℕ} (c : Climb
                 ∙ ap (leftBehind (T top) T rows) same,
           )
 
-      pub climb-next : accepted ≡ checkKernel (entry N table) n N row l → Climbed n N h rows lambda delta after (l + 1)
+      pub climb-next : accepted ≡ checkKernel (entry N table) n N row l → Climbed P (l + 1) head next after
       climb-next e =
           let b = c .base in
           let passed : kernelAt (entry N rows) n N h (each lambda) (each delta) l ≡ accepted = sym (e ∙ kernel-is) in
@@ -117,4 +124,5 @@ module _ {n N h : ℕ} {rows lambda delta table : List ℕ} {l : ℕ} (c : Climb
             low = omega arith;
             checked = scan-more (kernelAt (entry N rows) n N h (each lambda) (each delta)) l (c .checked) passed;
             holds = leaves ∙ rw (← e, add-one, c .holds) (next-table (entry N rows) n N h (each lambda) (each delta) (b .dimension) (b .darts) (b .valid) (b .allowed) l (c .low) (c .checked) f row row-is passed);
+            strung = c .strung;
           }

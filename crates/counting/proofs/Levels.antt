@@ -95,7 +95,7 @@ module _ (n N h : ℕ) (rows lambda delta table : List ℕ) (p : Accepted (ofPar
   }
 
   -- a climb can begin
-  pub climb-base : Base n N h rows lambda delta
+  pub climb-base : Base (ofParts n N h rows lambda delta)
   climb-base = record {
     dimension = p .dimension .1;
     darts = p .darts .1;
@@ -108,7 +108,7 @@ module _ (n N h : ℕ) (rows lambda delta table : List ℕ) (p : Accepted (ofPar
   }
 
   -- passes every kernel below
-  climb-passes : climbsTo n N h rows lambda delta l ≡ accepted
+  climb-passes : climbsTo (ofParts n N h rows lambda delta) l ≡ accepted
   unfolding checkKernels checkPyramid
   climb-passes =
       let marked = check8 n N h (each lambda) (each delta) in
@@ -119,7 +119,7 @@ module _ (n N h : ℕ) (rows lambda delta table : List ℕ) (p : Accepted (ofPar
       scan-all l (kernelAt (entry N rows) n N h (each lambda) (each delta)) (λ x lx. scan-accepted h (kernelAt (entry N rows) n N h (each lambda) (each delta)) all x (omega arith))
 
   -- and leaves it
-  pub table-climbed : climbToLeaves n N h rows lambda delta l ≡ T
+  pub table-climbed : climbToLeaves (ofParts n N h rows lambda delta) l ≡ T
   unfolding leftBehind
   table-climbed = rw climb-passes
 

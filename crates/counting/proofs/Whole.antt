@@ -71,7 +71,7 @@ module _ (n N h : ℕ) (rows lambda delta : List ℕ) where
     }
 
   -- a level climbed to
-  module _ (table : List ℕ) (p : Accepted (ofParts n N h rows lambda delta) table) (k : ℕ) (lk : k ≤ h) (next : List ℕ) (is : next ≡ climbToLeaves n N h rows lambda delta k) where
+  module _ (table : List ℕ) (p : Accepted (ofParts n N h rows lambda delta) table) (k : ℕ) (lk : k ≤ h) (next : List ℕ) (is : next ≡ climbToLeaves (ofParts n N h rows lambda delta) k) where
     -- its table is the explicit level
     pub climbed-table : next ≡ levelTable (entry N rows) n N h (each lambda) (each delta) k
     climbed-table = is ∙ table-climbed n N h rows lambda delta table p k lk

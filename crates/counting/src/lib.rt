@@ -3,6 +3,7 @@ mod level; // level.rt: one explicit level
 mod slices; // slices.rt: the census in slices
 mod sums; // sums.rt: the alternating sums
 
+use answers::AtLevel;
 use answers::Check;
 use answers::Dim;
 use answers::Level;
@@ -53,7 +54,11 @@ fn count_climbed(
     ensures counted { λ r. ⌜ LevelCounted (n .0) darts (tableAt (given (n .0) darts (h .0) (rows .entry) (lambda .entry) (delta .entry)) (level .0)) r ⌝ }
     ensures table_left { λ _. ⌜ now (table .exit) ≡ tableAt (given (n .0) darts (h .0) (rows .entry) (lambda .entry) (delta .entry)) (level .0) ⌝ }
 {
-    climbing::climb_to(n, darts as usize, h, level, rows, lambda, delta, table);
+    let at = AtLevel {
+        sizes: Sizes { n, h, darts },
+        level,
+    };
+    climbing::climb_to(at, rows, lambda, delta, table);
     count_level(n, darts, table)
 }
 

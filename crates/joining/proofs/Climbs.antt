@@ -7,7 +7,7 @@ use lib.ListN.{length}
 use Rattle.maps.specs.Verdict.{Verdict, accepted, refused, ifAccepted}
 use Rattle.maps.specs.Map.{Involutions}
 use Rattle.maps.specs.Table.{entry, each, listed}
-use Rattle.maps.specs.Folded.{refusedMarks, marks, level, levelTable}
+use Rattle.maps.specs.Folded.{refusedMarks, marks, level, levelTable, ofParts}
 use Rattle.maps.specs.Check.{checkKernel, checkKernels}
 use Rattle.maps.specs.CheckPyramid.{leftBehind}
 use Rattle.maps.specs.Pyramid.{Pyramid}
@@ -51,7 +51,7 @@ module _ {n N h : ℕ} {rows lambda delta : List ℕ} {l : ℕ} (c : Checked n N
   before : Pyramid (entry N rows) n N (suc (h - 1)) (each lambda) (each delta)
   before = rw up (c .pyramid)
 
-  pub climb-base : Base n N (h - 1) rows joined delta
+  pub climb-base : Base (ofParts n N (h - 1) rows joined delta)
   climb-base = record {
     dimension = c .dimension;
     darts = c .darts;
@@ -63,8 +63,11 @@ module _ {n N h : ℕ} {rows lambda delta : List ℕ} {l : ℕ} (c : Checked n N
     allowed = λ d ld. ap (λ (f : ℕ → ℕ). refusedMarks n (h - 1) (f d) (each delta d)) each-is ∙ allowed-joined n (h - 1) (each lambda) (each delta) l low d (before .allowed d ld);
   }
 
-  pub climb-verdict : climbs n N (h - 1) rows joined delta ≡ joinedVerdict n N h rows lambda delta l
+  pub climb-verdict : climbs (ofParts n N (h - 1) rows joined delta) ≡ joinedVerdict n N h rows lambda delta l
   climb-verdict = rw each-is (rw up at (kernels-joined (entry N rows) n N (h - 1) (each lambda) (each delta) before l low))
 
-  pub climb-leaves : climbLeaves n N (h - 1) rows joined delta ≡ joinedLeaves n N h rows lambda delta l
-  climb-leaves = rw each-is (rw up at (left (entry N rows) n N (h - 1) (each lambda) (each delta) before l low rows))
+  pub climb-leaves : climbLeaves (ofParts n N (h - 1) rows joined delta) ≡ joinedLeaves n N h rows lambda delta l
+  climb-leaves =
+      let a = entry N rows in
+      ap (λ (Λ : ℕ → ℕ). leftBehind (levelTable a n N (h - 1) Λ (each delta) (h - 1)) (levelTable a n N (h - 1) Λ (each delta)) rows (checkKernels a n N (h - 1) Λ (each delta))) each-is
+      ∙ (rw up at (left a n N (h - 1) (each lambda) (each delta) before l low rows))

@@ -79,10 +79,14 @@ fn climb(
     ensures table_left { λ _. ⌜ now (table .exit) ≡ joinedLeaves (n .0) darts (h .0) (now (rows .entry)) (now (lambda .entry)) (now (delta .entry)) (level .0) ⌝ }
 {
     let width = darts as usize;
-    let lower = Level(h.0 - 1);
+    let lower = Sizes {
+        n,
+        h: Level(h.0 - 1),
+        darts,
+    };
     let mut joined = [0u8; 4096];
     join_row(level, lambda, &mut joined[..width]);
-    climbing::rise(n, width, lower, rows, &joined[..width], delta, table)
+    climbing::rise(lower, rows, &joined[..width], delta, table)
 }
 
 // Join the kernels of this level and the next. The pyramid is checked first; Λ is written only once the joined kernel is accepted.

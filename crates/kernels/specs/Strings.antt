@@ -27,6 +27,12 @@ pub record Along (test : ℕ → Bool) (N first : ℕ) (next : List ℕ) : Type 
 abbrev pub Strings : ℕ → ℕ → List ℕ → Type 0
 Strings N first next = (test : ℕ → Bool) × Along test N first next
 
+-- no dart is strung: no head holds one
+pub record Unstrung (head next : List ℕ) : Type 0 where
+  pub none : (k : ℕ) → k < 256 → each head k ≡ 65535
+  pub heads : length head ≡ 256
+  pub room : length next ≡ 4096
+
 -- the darts from `from` on, strung by kernel: `head` has the first of each kernel, `next` the next after each dart
 pub record Linked (N : ℕ) (Λ : ℕ → ℕ) (from : ℕ) (head next : List ℕ) : Type 0 where
   pub heads : (k : ℕ) → k < 256 → First (λ x. eqb (Λ x) k) N from (each head k)

@@ -6,7 +6,9 @@ mod testing; // testing.rt: numbers 9 and 10 of a kernel
 use answers::Check;
 use answers::Dim;
 use answers::Level;
+use answers::ROOM;
 pub use removing::remove;
+pub use strings::HEADS;
 pub use strings::link;
 pub use testing::fitting;
 pub use testing::whole;
@@ -30,7 +32,7 @@ pub fn step(
     kernel: Kernel,
     lambda: &[u8],
     delta: &[u8],
-    next: &[u16; 4096],
+    next: &[u16; ROOM],
     table: &mut [u16],
 ) -> Check
     requires { ⌜ Tested (kernel .n .0) (kernel .darts) (kernelRow (now lambda) (now delta) (kernel .level .0)) (now table) ⌝ }

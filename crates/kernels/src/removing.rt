@@ -4,8 +4,10 @@ use super::strings::at;
 use super::strings::mark_of;
 use super::strings::next_of;
 use super::strings::removed;
+use answers::ABSENT;
 use answers::Dim;
 use answers::Level;
+use answers::ROOM;
 ghost use mathlib.Core.Path.{_≡_};
 ghost use mathlib.Core.Bool.{Bool, _&&_};
 ghost use Prim.Native.Nat.{ℕ, _+_, _*_, _<_, _≤_};
@@ -89,7 +91,7 @@ fn relink(
     kernel: Kernel,
     lambda: &[u8],
     delta: &[u8],
-    next: &[u16; 4096],
+    next: &[u16; ROOM],
     table: &mut [u16],
 ) -> usize
     requires { ⌜ Ready (kernel .n .0) (kernel .darts) (kernelRow (now lambda) (now delta) (kernel .level .0)) (now table) ⌝ }
@@ -120,19 +122,19 @@ fn relink(
 }
 
 // Row i cleared: 65,535 at the darts strung from the first on, whichever these are.
-fn clear_row(darts: usize, next: &[u16; 4096], first: u16, i: Dim, table: &mut [u16])
+fn clear_row(darts: usize, next: &[u16; ROOM], first: u16, i: Dim, table: &mut [u16])
     requires { ⌜ Strings darts first (now next) × ((d : ℕ) → d < darts → Place darts (now table) (i .0) d) ⌝ }
     ensures { λ _. ⌜ ((test : ℕ → Bool) → Along test darts first (now (next .entry)) → Cleared darts (λ t d. test d && eqb t (i .0)) (now (table .entry)) (now (table .exit))) ⌝ }
 {
     let mut d = first as usize;
     while d < darts {
-        put(darts, i, d, 65535, table);
+        put(darts, i, d, ABSENT, table);
         d = next_of(next, d);
     }
 }
 
 // Every row cleared.
-fn clear(n: Dim, darts: usize, next: &[u16; 4096], first: u16, table: &mut [u16])
+fn clear(n: Dim, darts: usize, next: &[u16; ROOM], first: u16, table: &mut [u16])
     requires { ⌜ Strings darts first (now next) × Shape (n .0) darts (now table) ⌝ }
     ensures { λ _. ⌜ ((test : ℕ → Bool) → Along test darts first (now (next .entry)) → Cleared darts (λ t d. test d && ltb t (n .0 + 1)) (now (table .entry)) (now (table .exit))) ⌝ }
 {
@@ -142,7 +144,7 @@ fn clear(n: Dim, darts: usize, next: &[u16; 4096], first: u16, table: &mut [u16]
 }
 
 // The kernel removed in place.
-pub fn remove(kernel: Kernel, lambda: &[u8], delta: &[u8], next: &[u16; 4096], table: &mut [u16])
+pub fn remove(kernel: Kernel, lambda: &[u8], delta: &[u8], next: &[u16; ROOM], table: &mut [u16])
     requires { ⌜ Ready (kernel .n .0) (kernel .darts) (kernelRow (now lambda) (now delta) (kernel .level .0)) (now table) ⌝ }
     requires { ⌜ Strung (kernel .n .0) (kernel .darts) (kernel .level .0) (kernel .first) (now lambda) (now delta) (now next) ⌝ }
     ensures { λ _. ⌜ now (table .exit) ≡ removedFrom (kernel .n .0) (kernel .darts) (kernelRow (now (lambda .entry)) (now (delta .entry)) (kernel .level .0)) (now (table .entry)) ⌝ }

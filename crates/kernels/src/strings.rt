@@ -2,13 +2,14 @@
 use answers::Dim;
 use answers::Level;
 use answers::Mark;
+use answers::ROOM;
 ghost use mathlib.Core.Path.{_≡_};
 ghost use mathlib.Core.Bool.{_&&_};
 ghost use Prim.Native.Nat.{ℕ, _<_, _≤_};
 ghost use lib.ListN.{length};
 ghost use lib.Dec.{eqb};
 ghost use Rattle.maps.specs.Table.{entry, each};
-ghost use Rattle.kernels.specs.Strings.{Linked};
+ghost use Rattle.kernels.specs.Strings.{Unstrung, Linked};
 ghost use Rattle.kernels.specs.Ready.{Place};
 
 // Is dart d in kernel l?
@@ -46,7 +47,7 @@ fn wide(x: u16) -> usize
 }
 
 // The next dart of its kernel.
-pub(crate) fn next_of(next: &[u16; 4096], d: usize) -> usize
+pub(crate) fn next_of(next: &[u16; ROOM], d: usize) -> usize
     requires { ⌜ d < 4096 ⌝ }
     ensures { λ r. ⌜ r ≡ each (now (next .entry)) d ⌝ }
 {
@@ -61,15 +62,19 @@ pub(crate) fn at(darts: usize, table: &[u16], i: Dim, d: usize) -> usize
     answers::at(darts as u16, table, i, d as u16) as usize
 }
 
+// The heads of the strings: one for each number that a byte of Λ may be.
+pub const HEADS: usize = 256;
+
 // The darts strung by kernel, from the last to the first, so that each string rises. Heads hold no dart at entry.
-pub fn link(darts: usize, lambda: &[u8], head: &mut [u16; 256], next: &mut [u16; 4096])
-    requires { ⌜ (darts ≤ 4096) × (length (now lambda) ≡ darts) × ((k : ℕ) → k < 256 → each (now head) k ≡ 65535) × (length (now head) ≡ 256) × (length (now next) ≡ 4096) ⌝ }
-    ensures { λ _. ⌜ Linked darts (each (now (lambda .entry))) 0 (now (head .exit)) (now (next .exit)) ⌝ }
+pub fn link(lambda: &[u8], head: &mut [u16; HEADS], next: &mut [u16; ROOM])
+    requires { ⌜ (length (now lambda) ≤ 4096) × Unstrung (now head) (now next) ⌝ }
+    ensures { λ _. ⌜ Linked (length (now (lambda .entry))) (each (now (lambda .entry))) 0 (now (head .exit)) (now (next .exit)) ⌝ }
 {
-    let mut d = darts;
+    let mut d = lambda.len();
     while 0 < d {
         d = d - 1;
-        let k = lambda[d] as usize;
+        let kernel = answers::lambda_at(lambda, d);
+        let k = kernel.0 as usize;
         next[d] = head[k];
         head[k] = d as u16;
     }

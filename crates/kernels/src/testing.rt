@@ -8,7 +8,9 @@ use answers::Check;
 use answers::Dim;
 use answers::Level;
 use answers::Mark;
+use answers::ROOM;
 use answers::Refusal;
+use answers::STAY;
 ghost use mathlib.Core.Path.{_≡_};
 ghost use mathlib.Core.Bool.{true, _&&_, not};
 ghost use Prim.Native.Nat.{ℕ, _<_, _≤_};
@@ -55,7 +57,7 @@ pub fn whole(
     kernel: Kernel,
     lambda: &[u8],
     delta: &[u8],
-    next: &[u16; 4096],
+    next: &[u16; ROOM],
     table: &[u16],
 ) -> Check
     requires { ⌜ Tested (kernel .n .0) (kernel .darts) (kernelRow (now lambda) (now delta) (kernel .level .0)) (now table) ⌝ }
@@ -104,7 +106,7 @@ pub fn fitting(
     kernel: Kernel,
     lambda: &[u8],
     delta: &[u8],
-    next: &[u16; 4096],
+    next: &[u16; ROOM],
     table: &[u16],
 ) -> Check
     requires { ⌜ Tested (kernel .n .0) (kernel .darts) (kernelRow (now lambda) (now delta) (kernel .level .0)) (now table) ⌝ }
@@ -114,7 +116,7 @@ pub fn fitting(
     let n = kernel.n;
     let darts = kernel.darts as usize;
     let l = kernel.level;
-    let mut mark = Mark(255);
+    let mut mark = Mark(STAY);
     let mut tested = answers::has_beyond(n, mark);
     let mut d = kernel.first as usize;
     while d < darts {

@@ -4,6 +4,7 @@ use mathlib.Core.List.{List}
 use Prim.Native.Nat.{ℕ, _+_, _<_}
 use Rattle.maps.specs.Verdict.{accepted}
 use Rattle.maps.specs.Table.{entry, each}
+use Rattle.maps.specs.Folded.{Folded}
 use Rattle.maps.specs.Check.{checkKernel, kernelAt, checkKernels}
 use Rattle.maps.specs.CheckBase.{present}
 use Rattle.laws.proofs.Verdicts.{scan-accepted}
@@ -11,10 +12,12 @@ use Rattle.maps.specs.Explicit.{There}
 use Rattle.facts.proofs.Checks.{kernel-sound}
 use Rattle.kernels.specs.Strings.{kernelRow}
 use Rattle.kernels.specs.Ready.{Ready, removedFrom}
-use Rattle.climbing.specs.Climb.{climbs}
-use Rattle.climbing.proofs.Steps.{Climbed, climb-tested, climb-next, kernel-is}
+use Rattle.climbing.specs.Climb.{climbs, Climbed}
+use Rattle.climbing.proofs.Steps.{climb-tested, climb-next, kernel-is}
 
-module _ {n N h : ℕ} {rows lambda delta table : List ℕ} {l : ℕ} (c : Climbed n N h rows lambda delta table l) (f : l < h) (all : climbs n N h rows lambda delta ≡ accepted) where
+module _ {P : Folded} {l : ℕ} {head next table : List ℕ} (c : Climbed P l head next table) (f : l < P .h) (all : climbs P ≡ accepted) where
+  open Folded P using (n, N, h, rows, lambda, delta)
+
   abbrev row : ℕ → ℕ
   row = kernelRow lambda delta l
 
@@ -25,5 +28,5 @@ module _ {n N h : ℕ} {rows lambda delta table : List ℕ} {l : ℕ} (c : Climb
   pub kernel-ready : Ready n N row table
   kernel-ready = let t = climb-tested c f in record { tested = t; kernel = kernel-sound (entry N table) n N row l (There N (present N table)) (t .sound .valid) (λ d o. o .0) (sym passed) }
 
-  pub kernel-removed : {after : List ℕ} → after ≡ removedFrom n N row table → Climbed n N h rows lambda delta after (l + 1)
+  pub kernel-removed : {after : List ℕ} → after ≡ removedFrom n N row table → Climbed P (l + 1) head next after
   kernel-removed e = climb-next c f (rw (← passed) e) passed

@@ -3,12 +3,13 @@ use mathlib.Core.Path.{_≡_}
 use mathlib.Core.List.{List}
 use Prim.Native.Nat.{ℕ, _≤_}
 use Rattle.maps.specs.Verdict.{accepted}
+use Rattle.maps.specs.Folded.{ofParts}
 use Rattle.climbing.specs.Climb.{Base, climbs}
 
 -- base and marks of an accepted pyramid of height h, and level l is one of its levels
 pub record Reached (n N h : ℕ) (rows lambda delta : List ℕ) (l : ℕ) : Type 0 where
-  pub base : Base n N h rows lambda delta
-  pub climbed : climbs n N h rows lambda delta ≡ accepted
+  pub base : Base (ofParts n N h rows lambda delta)
+  pub climbed : climbs (ofParts n N h rows lambda delta) ≡ accepted
   pub low : l ≤ h
 
 -- of some height

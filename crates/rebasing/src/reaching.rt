@@ -1,6 +1,9 @@
 // The kernels below a level, removed in the rows themselves. The strings of the darts by kernel, 8,704 bytes, are all the local memory here.
+use answers::ABSENT;
 use answers::Dim;
 use answers::Level;
+use answers::ROOM;
+use kernels::HEADS;
 use kernels::Kernel;
 ghost use mathlib.Core.Path.{_≡_};
 ghost use Prim.Native.Nat.{ℕ};
@@ -21,9 +24,9 @@ pub(crate) fn climb(
     ensures { λ _. ⌜ ((h : ℕ) → Reached (n .0) darts h (now (rows .entry)) (now (lambda .entry)) (now (delta .entry)) (level .0)
         → now (rows .exit) ≡ levelTable (entry darts (now (rows .entry))) (n .0) darts h (each (now (lambda .entry))) (each (now (delta .entry))) (level .0)) ⌝ }
 {
-    let mut head = [65535u16; 256];
-    let mut next = [0u16; 4096];
-    kernels::link(darts, lambda, &mut head, &mut next);
+    let mut head = [ABSENT; HEADS];
+    let mut next = [0u16; ROOM];
+    kernels::link(lambda, &mut head, &mut next);
     let top = level.0;
     for l in 0..top {
         let first = head[l as usize];

@@ -71,8 +71,8 @@ folded-requires c κs =
     let b = blank-part (s .args .sizes .darts) (p .0 .0 .darts) ∙ r in
     (p .0 .1, p .0 .0 .lambda-long ∙ r, p .0 .0 .delta-long ∙ r, b, b)
 
-add-t17 : tie.Need-add-t17
-add-t17 c = search needs
+add-t18 : tie.Need-add-t18
+add-t18 c = search needs
 
 array-share-prefix-new-lambda : tie.Need-array-share-prefix-new-lambda
 array-share-prefix-new-lambda c = let f = c .before .before .before in let few = start f .pre .0 .0 .darts in omega (arith, part-whole (start f .args .sizes .darts) (new-lambda f) (lambda-long f) few)
@@ -114,7 +114,7 @@ ascend-spec =
     array-borrow-prefix-new-delta
     slice-aggregate-folded-2
     folded-requires
-    add-t17
+    add-t18
     array-share-prefix-new-lambda
     slice-aggregate-rise
     array-share-prefix-new-delta

@@ -63,21 +63,18 @@ returns-2 c =
 enum-told-2 : tie.Need-enum-told-2
 enum-told-2 c = search needs
 
-cast-rise : tie.Need-cast-rise
-cast-rise c = search needs
-
 rise-requires : tie.Need-rise-requires
 rise-requires c κs =
-    let l = lent-at (c .before .before) in
+    let l = lent-at (c .before) in
     let a = start (l .before .before) .args in
-    (based (lent (a .sizes) (a .rows) (a .lambda) (a .delta)) (now (a .table)) (facts l) (sym (marked (c .before .before))), facts l .table-long)
+    (based (lent (a .sizes) (a .rows) (a .lambda) (a .delta)) (now (a .table)) (facts l) (sym (marked (c .before))), facts l .table-long)
 
 same-length-3 : tie.Need-same-length-3
 same-length-3 c = search needs
 
 returns-3 : tie.Need-returns-3
 returns-3 c =
-    let m : tie.After-enum-told2 = c .before .before .before .before .before in
+    let m : tie.After-enum-told2 = c .before .before .before .before in
     let a = start (lent-at m .before .before) .args in
     let e = c .before .before .rise .ensures in
     check-climbed (lent (a .sizes) (a .rows) (a .lambda) (a .delta)) (now (a .table)) (sized (lent-at m)) (marked m) (e .0) (e .1)
@@ -96,7 +93,6 @@ check-spec =
     same-length-2
     returns-2
     enum-told-2
-    cast-rise
     rise-requires
     same-length-3
     returns-3)

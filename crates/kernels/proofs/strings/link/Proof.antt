@@ -12,32 +12,32 @@ use Rattle.kernels.proofs.strings.link.Statement.{statement}
 use Rattle.kernels.proofs.strings.link.Tie as tie
 
 abbrev Inv-loop : tie.InvT-loop
-Inv-loop darts lambda head₀ next₀ d₀ head next d = (d ≤ darts) × Linked darts (each lambda) d head next × (length head ≡ 256) × (length next ≡ 4096)
+Inv-loop lambda head₀ next₀ d₀ head next d = (d ≤ length lambda) × Linked (length lambda) (each lambda) d head next × (length head ≡ 256) × (length next ≡ 4096)
 
 abbrev μ-loop : tie.MeasureT-loop
-μ-loop darts lambda head₀ next₀ d₀ head next d = d
+μ-loop lambda head₀ next₀ d₀ head next d = d
 
--- the kernel of the dart is a place of the heads
-kernel : (c : tie.After-shared-slice-known Inv-loop μ-loop) → each (now (c .before .before .before .args .lambda)) (c .before .before .loop .d - 1) < 256
-kernel c = omega (arith, c .shared-slice-known .given (c .before .before .loop .d - 1))
+-- the entry, from the head of the loop
+abbrev start : tie.At-loop Inv-loop μ-loop → tie.Start Inv-loop μ-loop
+start c = c .before .before
 
 loop-holds : tie.Need-loop-holds Inv-loop μ-loop
-loop-holds c = (omega arith, linked-none (each (now (c .args .lambda))) (now (c .args .next)) (c .pre .0) (c .pre .2), c .pre .3, c .pre .4)
+loop-holds c = let s = c .before in (omega arith, linked-none (each (now (s .args .lambda))) (now (s .args .next)) (s .pre .0) (s .pre .1 .none), s .pre .1 .heads, s .pre .1 .room)
 
 sub-d : tie.Need-sub-d Inv-loop μ-loop
 sub-d c = search needs
 
-shared-slice-read-k : tie.Need-shared-slice-read-k Inv-loop μ-loop
-shared-slice-read-k c = search needs
+lambda-at-requires : tie.Need-lambda-at-requires Inv-loop μ-loop
+lambda-at-requires c κs = search needs
 
 cast-k : tie.Need-cast-k Inv-loop μ-loop
-cast-k c = omega (arith, kernel c)
+cast-k c = search needs
 
 mul-next : tie.Need-mul-next Inv-loop μ-loop
-mul-next c = omega (arith, kernel c)
+mul-next c = search needs
 
 element-copy-out-next : tie.Need-element-copy-out-next Inv-loop μ-loop
-element-copy-out-next c = kernel c
+element-copy-out-next c = search needs
 
 mul-next-2 : tie.Need-mul-next-2 Inv-loop μ-loop
 mul-next-2 c = search needs
@@ -49,20 +49,22 @@ cast-head : tie.Need-cast-head Inv-loop μ-loop
 cast-head c = search needs
 
 mul-head : tie.Need-mul-head Inv-loop μ-loop
-mul-head c = omega (arith, kernel (c .before))
+mul-head c = search needs
 
 element-write-head : tie.Need-element-write-head Inv-loop μ-loop
-element-write-head c = kernel (c .before)
+element-write-head c = search needs
 
 loop-less : tie.Need-loop-less Inv-loop μ-loop
 loop-less c = search needs
 
 loop-again : tie.Need-loop-again Inv-loop μ-loop
 loop-again c =
-    let l = c .before .before .before .loop in
-    let k = each (now (c .before .before .before .before .args .lambda)) (l .d - 1) in (
+    let w : tie.After-lambda-at Inv-loop μ-loop = c .before .before in
+    let h = w .before .before in
+    let l = h .loop in
+    let k = w .lambda-at .result .0 in (
       omega arith,
-      linked-more (l .inv .1) (l .d - 1) k (omega arith) (omega arith) refl (kernel (c .before)) (l .inv .2) (omega (arith, l .inv .3)),
+      linked-more (l .inv .1) (l .d - 1) k (omega arith) (omega arith) (w .lambda-at .ensures) (omega arith) (l .inv .2) (omega (arith, l .inv .3)),
       length-set (l .head) k (l .d - 1) ∙ l .inv .2,
       length-set (l .next) (l .d - 1) (each (l .head) k) ∙ l .inv .3,
     )
@@ -78,7 +80,7 @@ link-spec =
     μ-loop
     loop-holds
     sub-d
-    shared-slice-read-k
+    lambda-at-requires
     cast-k
     mul-next
     element-copy-out-next

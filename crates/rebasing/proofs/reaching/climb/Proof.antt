@@ -4,14 +4,16 @@ use Prim.Native.Nat.{ℕ, _-_, _≤_, _<_, zero-le}
 use native.Mathlib.Omega.{arith}
 use lib.ListN.{getD-replicate}
 use borrow.Author.Needs.{needs}
-use Rattle.climbing.proofs.Steps.{Climbed, climb-none, climb-long, climb-strung}
+use Rattle.maps.specs.Folded.{ofParts}
+use Rattle.climbing.specs.Climb.{Climbed}
+use Rattle.climbing.proofs.Steps.{climb-none, climb-long, climb-strung}
 use Rattle.rebasing.specs.Reaching.{Reached}
 use Rattle.rebasing.proofs.Reached.{kernel-ready, kernel-removed}
 use Rattle.rebasing.proofs.reaching.climb.Statement.{statement}
 use Rattle.rebasing.proofs.reaching.climb.Tie as tie
 
 abbrev Inv-loop : tie.InvT-loop
-Inv-loop n darts lambda delta rows₀ head next top l₀ rows l = (l ≤ top) × ((h : ℕ) → Reached (n .0) darts h rows₀ lambda delta top → Climbed (n .0) darts h rows₀ lambda delta rows l)
+Inv-loop n darts lambda delta rows₀ head next top l₀ rows l = (l ≤ top) × ((h : ℕ) → Reached (n .0) darts h rows₀ lambda delta top → Climbed (ofParts (n .0) darts h rows₀ lambda delta) l head next rows)
 
 abbrev μ-loop : tie.MeasureT-loop
 μ-loop n darts lambda delta rows₀ head next top l₀ rows l = top - l
@@ -24,10 +26,10 @@ abbrev linked : tie.At-loop Inv-loop μ-loop → tie.After-link Inv-loop μ-loop
 linked c = c .before
 
 link-requires : tie.Need-link-requires Inv-loop μ-loop
-link-requires c κs = let b = c .before .before .before .before .before .pre .1 .base in (b .darts, b .lambda-long, λ k lk. getD-replicate 256 k 65535 0 lk, refl, refl)
+link-requires c κs = let b = c .before .before .before .before .before .pre .1 .base in (omega (arith, b .darts, b .lambda-long), record { none = λ k lk. getD-replicate 256 k 65535 0 lk; heads = refl; room = refl })
 
 loop-holds : tie.Need-loop-holds Inv-loop μ-loop
-loop-holds c = (zero-le, λ h r. climb-none (r .base) refl)
+loop-holds c = (zero-le, λ h r. climb-none (r .base) (c .link .ensures) refl)
 
 cast-t21 : tie.Need-cast-t21 Inv-loop μ-loop
 cast-t21 c = omega (arith, start (linked (c .before)) .pre .1 .base .darts)
@@ -38,7 +40,7 @@ remove-requires c κs =
     let s = start (linked (i .before)) in
     let f : i .before .loop .l < s .pre .0 = omega (arith, s .pre .1 .low) in
     let v = i .before .loop .inv .1 (s .pre .0) (s .pre .1) in
-    (kernel-ready v f (s .pre .1 .climbed), climb-strung v f (linked (i .before) .link .ensures) refl)
+    (kernel-ready v f (s .pre .1 .climbed), climb-strung v f refl)
 
 loop-again : tie.Need-loop-again Inv-loop μ-loop
 loop-again c =
