@@ -16,7 +16,7 @@ use Rattle.maps.specs.Cell.{Cell, itself, onward}
 use Rattle.maps.specs.Orbit.{here, further}
 use Rattle.maps.specs.Parts.{besides, Part, TwoParts, Piece}
 use Rattle.maps.specs.Sizes.{number2, number4}
-use Rattle.maps.specs.Table.{each}
+use Rattle.maps.specs.Table.{entry, each}
 use Rattle.maps.specs.Folded.{survives, marks, level, base, lambdaOf, deltaOf}
 use Rattle.maps.specs.Check.{at5, at6, at7, check5, check6, check7, checkMap}
 use Rattle.maps.specs.MarkCells.{WouldBeMarked, LeftUnmarked, Marked, CellsMarked}
@@ -47,16 +47,16 @@ unfoldable pub segment-sums : ℕ → ℤ
 segment-sums zero = pos 1
 segment-sums (suc l) = pos 0
 
--- each end of the segment is a vertex by itself
-end-alone : (x : ℕ) → base one 1 x ≡ x → (e : ℕ) → Cell (base one) 1 0 x e → e ≡ x
-end-alone x q _ itself = refl
-end-alone x q _ (onward d j c lj ne) = let s = end-alone x q d c in let row : j ≡ 1 = omega arith in rw (row, s) q
+-- of a map with n = 1: a dart that a_1 leaves where it is is a vertex by itself
+end-alone : (a : Involutions) (x : ℕ) → a 1 x ≡ x → (e : ℕ) → Cell a 1 0 x e → e ≡ x
+end-alone a x q _ itself = refl
+end-alone a x q _ (onward d j c lj ne) = let s = end-alone a x q d c in let row : j ≡ 1 = omega arith in rw (row, s) q
 
 ends-counted : CellCount (base one) 1 2 (survives (lambdaOf one) 0) 0 2
 unfolding count
 ends-counted = record {
   counted = λ d. true;
-  only = below-two _ (λ q. (refl, λ e c. omega (arith, end-alone 0 refl e c))) (λ q. (refl, λ e c. omega (arith, end-alone 1 refl e c)));
+  only = below-two _ (λ q. (refl, λ e c. omega (arith, end-alone (base one) 0 refl e c))) (λ q. (refl, λ e c. omega (arith, end-alone (base one) 1 refl e c)));
   every = λ d l p low. refl;
   is = refl;
 }
@@ -107,17 +107,17 @@ inside : (j d : ℕ) → j < 2 → d < 8 → square j d < 8
 unfolding every
 inside j d lj ld = ltb-true (square j d) 8 (below-two (λ j. ltb (square j d) 8 ≡ true) (every-at (λ d. ltb (square 0 d) 8) 8 refl d ld) (every-at (λ d. ltb (square 1 d) 8) 8 refl d ld) j lj)
 
--- a vertex is a dart and its a_1-neighbour
-in-vertex : (x y : ℕ) → x < 8 → Cell square 1 0 x y → (y ≡ x) ⊎ (y ≡ square 1 x)
-in-vertex x _ l itself = inl refl
-in-vertex x _ l (onward d j c lj ne) = go (in-vertex x d l c)
+-- of a map with n = 1: a vertex is a dart and its a_1-neighbour
+in-vertex : (a : Involutions) (x y : ℕ) → a 1 (a 1 x) ≡ x → Cell a 1 0 x y → (y ≡ x) ⊎ (y ≡ a 1 x)
+in-vertex a x _ f itself = inl refl
+in-vertex a x _ f (onward d j c lj ne) = go (in-vertex a x d f c)
   where
     row : j ≡ 1
     row = omega arith
 
-    go : (d ≡ x) ⊎ (d ≡ square 1 x) → (square j d ≡ x) ⊎ (square j d ≡ square 1 x)
+    go : (d ≡ x) ⊎ (d ≡ a 1 x) → (a j d ≡ x) ⊎ (a j d ≡ a 1 x)
     go (inl q) = inr (rw (row, q))
-    go (inr q) = inl (rw (row, q) (twice x l))
+    go (inr q) = inl (rw (row, q) f)
 
 -- with a_0 and a_1 both left out each dart is a part
 no-row : (j : ℕ) → j ≤ 1 → besides 0 j ≡ true → ⊥
@@ -125,27 +125,31 @@ no-row zero l u = true≢false (sym u)
 no-row (suc zero) l u = true≢false (sym u)
 no-row (suc (suc j)) l u = omega arith
 
-alone : (x y : ℕ) → Part square 1 0 x y → y ≡ x
-alone x _ here = refl
-alone x _ (further d j p lj u) = absurd (no-row j lj u)
+alone : (a : Involutions) (x y : ℕ) → Part a 1 0 x y → y ≡ x
+alone a x _ here = refl
+alone a x _ (further d j p lj u) = absurd (no-row j lj u)
 
--- so each vertex would be marked
-would : (d : ℕ) → d < 8 → WouldBeMarked square 1 0 d
-would d l = record {
+-- so a vertex of two darts would be marked
+two-marked : (a : Involutions) (d : ℕ) → a 1 (a 1 d) ≡ d → (a 1 d ≡ d → ⊥) → WouldBeMarked a 1 0 d
+two-marked a d back free = record {
   removable = λ f. absurd (omega arith);
   two = record {
     one = d;
-    other = square 1 d;
+    other = a 1 d;
     one-in = itself;
     other-in = onward d 1 itself (lit≤ tt) (λ q. omega arith);
-    apart = λ p. not-free d l (alone d (square 1 d) p);
-    all = λ e c. go e (in-vertex d e l c);
+    apart = λ p. free (alone a d (a 1 d) p);
+    all = λ e c. go e (in-vertex a d e back c);
   };
 }
   where
-    go : (e : ℕ) → (e ≡ d) ⊎ (e ≡ square 1 d) → Part square 1 0 d e ⊎ Part square 1 0 (square 1 d) e
+    go : (e : ℕ) → (e ≡ d) ⊎ (e ≡ a 1 d) → Part a 1 0 d e ⊎ Part a 1 0 (a 1 d) e
     go e (inl q) = inl (rw q here)
     go e (inr q) = inr (rw q here)
+
+-- as each of the square is
+would : (d : ℕ) → d < 8 → WouldBeMarked square 1 0 d
+would d l = two-marked square d (twice d l) (not-free d l)
 
 piece-inside : (x y : ℕ) → x < 8 → Piece square 1 x y → y < 8
 piece-inside x _ l here = l
@@ -153,7 +157,7 @@ piece-inside x _ l (further d j p lj u) = inside j d (omega arith) (piece-inside
 
 -- the lowest dart of such a vertex is another than 0
 not-lowest : (d lowest : ℕ) → d < 8 → 0 < d → 0 < square 1 d → Cell square 1 0 d lowest → lowest ≤ 0 → ⊥
-not-lowest d lowest l f g c z = go (in-vertex d lowest l c)
+not-lowest d lowest l f g c z = go (in-vertex square d lowest (twice d l) c)
   where
     go : (lowest ≡ d) ⊎ (lowest ≡ square 1 d) → ⊥
     go (inl q) = omega arith
@@ -165,12 +169,16 @@ marked-one = (would 1 (lit< tt), λ u. not-lowest 1 (u .lowest) (lit< tt) (lit< 
 left-at : (d : ℕ) → d < 8 → Cell square 1 0 d 0 → LeftUnmarked square 1 0 d
 left-at d l c = record { every = λ e p. would e (piece-inside d e l p); lowest = 0; in-cell = c; least = λ e p. omega arith }
 
--- an end of the segment is one part
-one-part : TwoParts (base one) 1 0 0 → ⊥
-one-part t =
-    let p = end-alone 0 refl (t .one) (t .one-in) in
-    let q = end-alone 0 refl (t .other) (t .other-in) in
+-- a vertex of one dart is one part
+one-part : (a : Involutions) (x : ℕ) → a 1 x ≡ x → TwoParts a 1 0 x → ⊥
+one-part a x free t =
+    let p = end-alone a x free (t .one) (t .one-in) in
+    let q = end-alone a x free (t .other) (t .other-in) in
     t .apart (rw (p, q) here)
+
+-- two edges in a row, whose lowest dart is at the vertex between them
+abbrev row-of-two : Involutions
+row-of-two = entry 4 (2 ∷ 3 ∷ 0 ∷ 1 ∷ 1 ∷ 0 ∷ 2 ∷ 3 ∷ [])
 
 -- the places that P1 doesn't use
 nothing : (l i : ℕ) → (1 < l) ⊎ (1 < i) → segment-counts l i ≡ 0
@@ -234,6 +242,8 @@ pub record SmallRelations : Type 0 where
   pub marks-left : (out : List ℕ) → CellsMarked 1 8 (corners .rows) 0 out → (each out 1 ≡ 0) × (each out 0 ≡ 255)
   -- the segment's end is an open one: it has one part
   pub open-end : WouldBeMarked (base one) 1 0 0 → ⊥
+  -- a piece with an open end has no cell left unmarked for it, though its lowest dart is at one that is marked
+  pub open-piece : Marked row-of-two 1 0 0
   -- M1 taken back: the first of the rows answered is the edge row
   pub taken-back : (edge vertex : List ℕ) → Exports partnerBase [] [] accepted accepted edge vertex → each edge 0 ≡ 1
   -- a base of one dart passes the tests of the way back, and nothing but 22 may be answered then
@@ -263,7 +273,8 @@ small-relations = record {
     elim (c .mark 1 (lit< tt)) [ inl w ↦ w .2 | inr w ↦ absurd (w .0 (refl, marked-one)) ],
     elim (c .mark 0 (lit< tt)) [ inl w ↦ absurd (w .1 .1 (left-at 0 (lit< tt) itself)) | inr w ↦ w .1 ],
   );
-  open-end = λ w. one-part (w .two);
+  open-end = λ w. one-part (base one) 0 refl (w .two);
+  open-piece = (two-marked row-of-two 0 refl (λ q. let z : _≡_ {A = ℕ} 1 0 = q in omega arith), λ u. one-part row-of-two 2 refl (u .every 2 (further 0 0 here (lit≤ tt) refl) .two));
   taken-back = λ edge vertex e. edge-first (e .0) edge vertex (e .1);
   way-back = (refl, only-22);
 }
