@@ -11,6 +11,7 @@ from .jobs import (
     CONTRACT,
     MOST_DARTS,
     MOST_ENTRIES,
+    MOST_HEIGHT,
     MOST_LEVELS,
     MOST_PARTNER_DARTS,
     MOST_RECORD,

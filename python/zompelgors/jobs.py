@@ -25,7 +25,8 @@ CONTRACT = 8
 ABSENT = 65_535
 MOST_DARTS = 4_096
 MOST_PARTNER_DARTS = 2_048
-MOST_LEVELS = 32
+MOST_HEIGHT = 32
+MOST_LEVELS = MOST_HEIGHT  # its older name
 MOST_ENTRIES = 5 * MOST_DARTS
 MOST_RECORD = 49_180
 WORDS = 64
@@ -359,7 +360,8 @@ def census(
     cells: Optional[Writable] = None,
     sums: Optional[Writable] = None,
 ) -> Census:
-    """The cells of each dimension of each level, at 5 l + i, and their alternating sums."""
+    """The cells of each dimension of each level, at 5 l + i, and their alternating sums, which are the Euler numbers only
+    while every cell is a ball."""
     room = _room(table, "H", _entries(n, darts))
     counts, all_sums = _room(cells, "H", CELLS), _room(sums, "i", SUMS)
     with _Call("census") as call:

@@ -106,7 +106,7 @@ fn asking() -> [Command; 6] {
         .arg(record()),
         sub(
             "census",
-            "For each level its cells of each dimension and their alternating sum",
+            "For each level its cells of each dimension and their alternating sum, the Euler number only while every cell is a ball",
         )
         .arg(record()),
         sub("decimation", "By which factor a level shrinks to the next")
