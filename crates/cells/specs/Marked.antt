@@ -6,6 +6,8 @@ use mathlib.Core.List.{List}
 use Prim.Native.Nat.{ℕ, _+_, _<_}
 use lib.Dec.{eqb, ltb}
 use Rattle.maps.specs.Mark.{stay}
+use Rattle.maps.specs.Kernel.{Removable}
+use Rattle.maps.specs.MarkCells.{WouldBeMarked, Marked, markLent, MarkLeaves}
 use Rattle.maps.specs.Orbit.{Orbit}
 use Rattle.maps.specs.Table.{entry}
 use Rattle.maps.specs.CheckBase.{present}
@@ -35,6 +37,16 @@ module _ (n N : ℕ) (table : List ℕ) where
     pub cells : Closed (entry N table) n (λ j d. but δ j) (has reached)
     pub lacks : Lacks P (has reached)
 
+  -- the sets after each step: without the cells that are not removable, then also those that don't fall into two parts, then also those left unmarked
+  abbrev pub Spoilt : ℕ → List Bool → List ℕ → Type 0
+  Spoilt δ = Without δ (Removable (entry N table) n δ)
+
+  abbrev pub Divided : ℕ → List Bool → List ℕ → Type 0
+  Divided δ = Without δ (WouldBeMarked (entry N table) n δ)
+
+  abbrev pub Spared : ℕ → List Bool → List ℕ → Type 0
+  Spared δ = Without δ (Marked (entry N table) n δ)
+
 -- Is it still to be found out whether the cell of dart d has two parts? It is not in the set, and no part has been searched that d or its a_(δ+1)-neighbour lies in.
 abbrev pub undivided : ℕ → List ℕ → ℕ → (ℕ → Bool) → (ℕ → Bool) → ℕ → Bool
 undivided N table δ within parts d = present N table d && (not (within d || parts d) && not (parts (entry N table (δ + 1) d)))
@@ -46,3 +58,7 @@ markOf N table δ within d = cond (not (present N table d) || within) stay δ
 -- the same of a set that is asked for each dart
 abbrev pub marksOf : ℕ → List ℕ → ℕ → (ℕ → Bool) → ℕ → ℕ
 marksOf N table δ within d = markOf N table δ (within d) d
+
+-- what a marking leaves of the lent mark row, by its own verdict
+abbrev pub MarkingLeaves : ℕ → ℕ → List ℕ → ℕ → List ℕ → List ℕ → Type 0
+MarkingLeaves n N table δ old new = MarkLeaves n N table δ old (markLent n N table δ old) new

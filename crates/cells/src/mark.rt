@@ -7,19 +7,19 @@ use answers::ROOM;
 use answers::Refusal;
 use answers::STAY;
 use answers::Sizes;
+use orbits::Search;
 ghost use mathlib.Core.Path.{_≡_};
 ghost use mathlib.Core.Bool.{true, false, _&&_};
 ghost use Prim.Native.Nat.{ℕ, _+_, _*_, _≤_, _<_};
 ghost use lib.ListN.{length};
-ghost use Rattle.maps.specs.Kernel.{Removable};
 ghost use Rattle.maps.specs.Table.{entry, listed};
 ghost use Rattle.maps.specs.CheckBase.{present};
-ghost use Rattle.maps.specs.MarkCells.{WouldBeMarked, Marked, CellsMarked, markLent, MarkLeaves};
+ghost use Rattle.maps.specs.MarkCells.{CellsMarked, markLent};
 ghost use Rattle.answers.specs.Numbers.{verdictOf};
 ghost use Rattle.orbits.specs.Choices.{uses};
 ghost use Rattle.orbits.specs.Search.{has, Room};
 ghost use Rattle.orbits.specs.Explicit.{ExplicitLevel};
-ghost use Rattle.cells.specs.Marked.{failing, Gathered, Without, undivided, markOf, marksOf};
+ghost use Rattle.cells.specs.Marked.{failing, Gathered, Spoilt, Divided, Spared, undivided, markOf, marksOf, MarkingLeaves};
 
 // "For δ = n−1 always. For δ ≤ n−2, each dart of the cell ends at the same place by a_(δ+1) then a_(δ+2) as by a_(δ+2) then a_(δ+1)": does dart d not?
 fn fails(n: Dim, darts: u16, table: &[u16], dimension: Dim, d: u16) -> bool
@@ -34,11 +34,7 @@ fn fails(n: Dim, darts: u16, table: &[u16], dimension: Dim, d: u16) -> bool
     }
     let low = Dim(dimension.0 + 1);
     let high = Dim(dimension.0 + 2);
-    let by_low = answers::at(darts, table, low, d);
-    let by_high = answers::at(darts, table, high, d);
-    let one_way = answers::at(darts, table, high, by_low);
-    let other_way = answers::at(darts, table, low, by_high);
-    one_way != other_way
+    !answers::commute(darts, table, low, high, d)
 }
 
 // The darts whose cell isn't removable: the cells of the darts that fail, each searched once.
@@ -51,7 +47,7 @@ fn spoil(
     queue: &mut [u16; ROOM],
 )
     requires { ⌜ ExplicitLevel (n .0) darts (now table) × (dimension .0 < n .0) × ((d : ℕ) → has (now reached) d ≡ false) × Room (now reached) (now queue) ⌝ }
-    ensures { λ _. ⌜ Without (n .0) darts (now (table .entry)) (dimension .0) (Removable (entry darts (now (table .entry))) (n .0) (dimension .0)) (now (reached .exit)) (now (queue .exit)) ⌝ }
+    ensures { λ _. ⌜ Spoilt (n .0) darts (now (table .entry)) (dimension .0) (now (reached .exit)) (now (queue .exit)) ⌝ }
 {
     let choice = orbits::all_but(dimension);
     let choices = [choice; ROOM];
@@ -59,7 +55,13 @@ fn spoil(
         let place = d as usize;
         if !reached[place] {
             if fails(n, darts, table, dimension, d) {
-                orbits::orbit(n, darts, table, &choices, d, reached, queue);
+                let search = Search {
+                    n,
+                    darts,
+                    dart: d,
+                    tail: 0,
+                };
+                orbits::orbit(search, table, &choices, reached, queue);
             }
         }
     }
@@ -97,8 +99,8 @@ fn divide(
     reached: &mut [bool; ROOM],
     queue: &mut [u16; ROOM],
 )
-    requires { ⌜ ExplicitLevel (n .0) darts (now table) × (dimension .0 < n .0) × Without (n .0) darts (now table) (dimension .0) (Removable (entry darts (now table)) (n .0) (dimension .0)) (now reached) (now queue) ⌝ }
-    ensures { λ _. ⌜ Without (n .0) darts (now (table .entry)) (dimension .0) (WouldBeMarked (entry darts (now (table .entry))) (n .0) (dimension .0)) (now (reached .exit)) (now (queue .exit)) ⌝ }
+    requires { ⌜ ExplicitLevel (n .0) darts (now table) × (dimension .0 < n .0) × Spoilt (n .0) darts (now table) (dimension .0) (now reached) (now queue) ⌝ }
+    ensures { λ _. ⌜ Divided (n .0) darts (now (table .entry)) (dimension .0) (now (reached .exit)) (now (queue .exit)) ⌝ }
 {
     let part = orbits::all_but_two(dimension);
     let part_choices = [part; ROOM];
@@ -107,10 +109,16 @@ fn divide(
     let mut parts = [false; ROOM];
     for d in 0..darts {
         if undecided(darts, table, dimension, reached, &parts, d) {
-            orbits::orbit(n, darts, table, &part_choices, d, &mut parts, queue);
+            let search = Search {
+                n,
+                darts,
+                dart: d,
+                tail: 0,
+            };
+            orbits::orbit(search, table, &part_choices, &mut parts, queue);
             let over = answers::at(darts, table, Dim(dimension.0 + 1), d) as usize;
             if parts[over] {
-                orbits::orbit(n, darts, table, &cell_choices, d, reached, queue);
+                orbits::orbit(search, table, &cell_choices, reached, queue);
             }
         }
     }
@@ -141,7 +149,13 @@ fn break_pieces(
     for d in 0..darts {
         let place = d as usize;
         if answers::there(darts, table, d) & reached[place] & !pieces[place] {
-            orbits::orbit(n, darts, table, &choices, d, pieces, queue);
+            let search = Search {
+                n,
+                darts,
+                dart: d,
+                tail: 0,
+            };
+            orbits::orbit(search, table, &choices, pieces, queue);
         }
     }
 }
@@ -155,8 +169,8 @@ fn spare(
     reached: &mut [bool; ROOM],
     queue: &mut [u16; ROOM],
 )
-    requires { ⌜ ExplicitLevel (n .0) darts (now table) × (dimension .0 < n .0) × Without (n .0) darts (now table) (dimension .0) (WouldBeMarked (entry darts (now table)) (n .0) (dimension .0)) (now reached) (now queue) ⌝ }
-    ensures { λ _. ⌜ Without (n .0) darts (now (table .entry)) (dimension .0) (Marked (entry darts (now (table .entry))) (n .0) (dimension .0)) (now (reached .exit)) (now (queue .exit)) ⌝ }
+    requires { ⌜ ExplicitLevel (n .0) darts (now table) × (dimension .0 < n .0) × Divided (n .0) darts (now table) (dimension .0) (now reached) (now queue) ⌝ }
+    ensures { λ _. ⌜ Spared (n .0) darts (now (table .entry)) (dimension .0) (now (reached .exit)) (now (queue .exit)) ⌝ }
 {
     let mut pieces = [false; ROOM];
     break_pieces(n, darts, table, reached, &mut pieces, queue);
@@ -167,8 +181,14 @@ fn spare(
     for d in 0..darts {
         let place = d as usize;
         if answers::there(darts, table, d) & !pieces[place] {
-            orbits::orbit(n, darts, table, &left_choices, d, reached, queue);
-            orbits::orbit(n, darts, table, &piece_choices, d, &mut pieces, queue);
+            let search = Search {
+                n,
+                darts,
+                dart: d,
+                tail: 0,
+            };
+            orbits::orbit(search, table, &left_choices, reached, queue);
+            orbits::orbit(search, table, &piece_choices, &mut pieces, queue);
         }
     }
 }
@@ -213,7 +233,7 @@ fn mark_accepted(n: Dim, darts: u16, table: &[u16], dimension: Dim, out: &mut [u
 // Mark cells of one dimension δ on an explicit level: every δ-cell that is removable and falls into exactly two parts when a_δ and a_(δ+1) are both left out is marked; wherever that is every dart of a connected piece, the cell of its lowest dart is left unmarked; the rest get 255. After a refusal nothing lent has changed.
 pub fn mark_cells(n: Dim, darts: u16, table: &[u16], dimension: Dim, out: &mut [u8]) -> Check
     ensures verdict { λ r. ⌜ verdictOf r ≡ markLent (n .0) darts (now (table .entry)) (dimension .0) (now (out .entry)) ⌝ }
-    ensures marks_left { λ _. ⌜ MarkLeaves (n .0) darts (now (table .entry)) (dimension .0) (now (out .entry)) (markLent (n .0) darts (now (table .entry)) (dimension .0) (now (out .entry))) (now (out .exit)) ⌝ }
+    ensures marks_left { λ _. ⌜ MarkingLeaves (n .0) darts (now (table .entry)) (dimension .0) (now (out .entry)) (now (out .exit)) ⌝ }
 {
     let fit = answers::both(
         answers::rows_fit(n, darts, table.len()),

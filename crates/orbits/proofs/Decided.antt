@@ -10,9 +10,9 @@ use lib.Dec.{ltb}
 use borrow.Author.Tests.{ltb-true, ltb-false}
 use Rattle.maps.specs.Orbit.{Orbit}
 use Rattle.maps.specs.Table.{entry}
-use Rattle.orbits.specs.Search.{State, state, has, pushed, turns}
+use Rattle.orbits.specs.Search.{State, state, has, Stored, pushed, turns}
 use Rattle.orbits.specs.Orbits.{Ready, Found}
-use Rattle.orbits.proofs.Sets.{none-has, none-room}
+use Rattle.orbits.proofs.Sets.{none-has, none-room, queue-empty}
 use Rattle.orbits.proofs.Searches.{after, after-turn, after-found, turns-next}
 
 -- no dart is reached before the search
@@ -20,9 +20,9 @@ abbrev pub none : List Bool
 none = replicate 4096 false
 
 module _ (n N : ℕ) (table : List ℕ) (uses : ℕ → ℕ → Bool) (start : ℕ) (p : Ready n N table uses start (has none)) where
-  -- the state after k turns
+  -- the state when the head has come to place k
   abbrev reaches : ℕ → State
-  reaches k = after n N table uses start none (replicate 4096 0) k
+  reaches k = after n N table uses start none (replicate 4096 0) 0 k
 
   abbrev Ends : State → Type 0
   Ends t = Found n N (entry N table) uses start (state none (replicate 4096 0) 0) t
@@ -31,13 +31,16 @@ module _ (n N : ℕ) (table : List ℕ) (uses : ℕ → ℕ → Bool) (start : �
   ends-or : (k : ℕ) → k ≤ reaches k .tail → Ends (reaches k) ⊎ ((k < N) × (k + 1 ≤ reaches (k + 1) .tail))
   ends-or k behind = go (ltb k (reaches k .tail)) refl
     where
+      empty : Stored N (state none (replicate 4096 0) 0)
+      empty = queue-empty none-room
+
       go : (b : Bool) → ltb k (reaches k .tail) ≡ b → Ends (reaches k) ⊎ ((k < N) × (k + 1 ≤ reaches (k + 1) .tail))
       go true q =
           let more = ltb-true k (reaches k .tail) q in
-          let t = after-turn n N table uses start none (replicate 4096 0) p none-room k (reaches k) refl behind more in
-          let e = turns-next (entry N table) n uses (pushed (state none (replicate 4096 0) 0) start) k (reaches k) refl more in
+          let t = after-turn n N table uses start none (replicate 4096 0) 0 p empty k (reaches k) refl zero-le behind more in
+          let e = turns-next (entry N table) n uses 0 (pushed (state none (replicate 4096 0) 0) start) k (reaches k) zero-le refl more in
           inr (t .place, omega (arith, t .next, ap (λ (s : State). s .tail) e))
-      go false q = inl (after-found n N table uses start none (replicate 4096 0) p none-room k (reaches k) refl behind (ltb-false k (reaches k .tail) q))
+      go false q = inl (after-found n N table uses start none (replicate 4096 0) 0 p empty k (reaches k) refl zero-le behind (ltb-false k (reaches k .tail) q))
 
   -- so it ends, since there are N places
   ends : (left k : ℕ) → N ≤ k + left → k ≤ reaches k .tail → (t : State) × Ends t

@@ -9,7 +9,9 @@ use Rattle.maps.specs.Map.{Involutions}
 use Rattle.maps.specs.Orbit.{Orbit}
 use Rattle.maps.specs.Table.{entry}
 use Rattle.answers.specs.Rows.{Rows}
-use Rattle.orbits.specs.Search.{State, has, Room, pushed, turns}
+use Rattle.orbits.specs.Choices.{uses}
+use Rattle.orbits.specs.Search.{State, has, Stored, pushed, turns}
+use Rattle.orbits.specs.declared.Search.{Search}
 
 -- no row used leads out of the set
 abbrev pub Closed : Involutions → ℕ → (ℕ → ℕ → Bool) → (ℕ → Bool) → Type 0
@@ -26,6 +28,13 @@ pub record Ready (n N : ℕ) (table : List ℕ) (uses : ℕ → ℕ → Bool) (s
   pub inside : Inside (entry N table) n N uses start
   pub closed : Closed (entry N table) n uses old
 
+-- what a turn asks: the rows of its choice lead from its dart to darts, and the queue has room
+pub record Spreads (from : Search) (choice : ℕ) (table : List ℕ) (s : State) : Type 0 where
+  pub rows : Rows (from .n .0) (from .darts) table
+  pub dart : from .dart < from .darts
+  pub inside : (j : ℕ) → j ≤ from .n .0 → uses choice j ≡ true → entry (from .darts) table j (from .dart) < from .darts
+  pub stored : Stored (from .darts) s
+
 -- the orbit of a dart is added to a set, and nothing else
 pub record Added (a : Involutions) (n : ℕ) (uses : ℕ → ℕ → Bool) (start : ℕ) (old new : ℕ → Bool) : Type 0 where
   pub kept : (d : ℕ) → old d ≡ true → new d ≡ true
@@ -33,17 +42,23 @@ pub record Added (a : Involutions) (n : ℕ) (uses : ℕ → ℕ → Bool) (star
   pub only : (d : ℕ) → new d ≡ true → (old d ≡ true) ⊎ Orbit a n uses start d
   pub closed : Closed a n uses new
 
--- the darts added stand before the queue's end, each once, and nothing else does
-pub record Queued (N : ℕ) (old new : ℕ → Bool) (queue : List ℕ) (end : ℕ) : Type 0 where
+-- the darts added stand in the queue from its old end to its new one, each once, and nothing else does
+pub record Queued (N : ℕ) (old new : ℕ → Bool) (queue : List ℕ) (begin end : ℕ) : Type 0 where
   pub few : end ≤ N
-  pub each : (k : ℕ) → k < end → (getD queue k 0 < N) × (old (getD queue k 0) ≡ false) × (new (getD queue k 0) ≡ true)
-  pub once : (k m : ℕ) → k < m → m < end → getD queue k 0 ≡ getD queue m 0 → ⊥
-  pub every : (d : ℕ) → old d ≡ false → new d ≡ true → (k : ℕ) × (k < end) × (getD queue k 0 ≡ d)
+  pub each : (k : ℕ) → begin ≤ k → k < end → (getD queue k 0 < N) × (old (getD queue k 0) ≡ false) × (new (getD queue k 0) ≡ true)
+  pub once : (k m : ℕ) → begin ≤ k → k < m → m < end → getD queue k 0 ≡ getD queue m 0 → ⊥
+  pub every : (d : ℕ) → old d ≡ false → new d ≡ true → (k : ℕ) × (begin ≤ k) × (k < end) × (getD queue k 0 ≡ d)
 
 -- what a search from start leaves of the state s
 pub record Found (n N : ℕ) (a : Involutions) (uses : ℕ → ℕ → Bool) (start : ℕ) (s t : State) : Type 0 where
   -- the set, the queue in its order and its end are those after N turns
-  pub is : t ≡ turns a n uses (pushed s start) N
-  pub room : Room (t .reached) (t .queue)
+  pub is : t ≡ turns a n uses (s .tail) (pushed s start) N
+  pub stored : Stored N t
   pub added : Added a n uses start (has (s .reached)) (has (t .reached))
-  pub queued : Queued N (has (s .reached)) (has (t .reached)) (t .queue) (t .tail)
+  pub queued : Queued N (has (s .reached)) (has (t .reached)) (t .queue) (s .tail) (t .tail)
+  -- what stood in the queue stands
+  pub before : (k : ℕ) → k < s .tail → getD (t .queue) k 0 ≡ getD (s .queue) k 0
+
+-- the same of a search as the code is asked for it
+abbrev pub Finds : Search → List ℕ → (ℕ → ℕ → Bool) → State → State → Type 0
+Finds search table uses s t = Found (search .n .0) (search .darts) (entry (search .darts) table) uses (search .dart) s t

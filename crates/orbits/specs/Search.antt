@@ -5,6 +5,7 @@ use mathlib.Core.List.{List}
 use Prim.Native.Nat.{ℕ, zero, suc, _+_, _≤_}
 use lib.ListN.{length, getD, set}
 use lib.Dec.{ltb}
+use denote.Ref.{RefT, now}
 use Rattle.maps.specs.Map.{Involutions}
 use Rattle.maps.specs.Count.{count}
 
@@ -21,6 +22,10 @@ pub record State : Type 0 where
 -- the three as one
 abbrev pub state : List Bool → List ℕ → ℕ → State
 state reached queue tail = record { reached = reached; queue = queue; tail = tail }
+
+-- the set and the queue as they are lent, up to a tail
+abbrev pub held : RefT (List Bool) → RefT (List ℕ) → ℕ → State
+held reached queue tail = state (now reached) (now queue) tail
 
 -- both have 4,096 places
 pub record Room (reached : List Bool) (queue : List ℕ) : Type 0 where
@@ -45,7 +50,7 @@ spread a uses d s (suc m) = cond (uses m) (pushed (spread a uses d s m) (a m d))
 abbrev pub turned : Involutions → ℕ → (ℕ → ℕ → Bool) → State → ℕ → State
 turned a n uses s k = cond (ltb k (s .tail)) (spread a (λ j. uses j (getD (s .queue) k 0)) (getD (s .queue) k 0) s (suc n)) s
 
--- the search after k turns, which take the places of the queue in their order
-unfoldable pub turns : Involutions → ℕ → (ℕ → ℕ → Bool) → State → ℕ → State
-turns a n uses s zero = s
-turns a n uses s (suc k) = turned a n uses (turns a n uses s k) k
+-- the search after k turns, which take the places of the queue in their order, from a given one on
+unfoldable pub turns : Involutions → ℕ → (ℕ → ℕ → Bool) → ℕ → State → ℕ → State
+turns a n uses from s zero = s
+turns a n uses from s (suc k) = turned a n uses (turns a n uses from s k) (from + k)

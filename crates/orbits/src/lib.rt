@@ -9,8 +9,8 @@ ghost use Rattle.maps.specs.Parts.{besides};
 ghost use Rattle.maps.specs.Table.{entry};
 ghost use Rattle.answers.specs.Rows.{Rows};
 ghost use Rattle.orbits.specs.Choices.{uses as usesOf, chosen};
-ghost use Rattle.orbits.specs.Search.{has, state, Room, Stored, pushed, spread};
-ghost use Rattle.orbits.specs.Orbits.{Ready, Found};
+ghost use Rattle.orbits.specs.Search.{has, state, held, Stored, pushed, spread};
+ghost use Rattle.orbits.specs.Orbits.{Ready, Spreads, Finds};
 
 // The choice of every row, a bit for each.
 pub const ALL_ROWS: u8 = 31;
@@ -42,7 +42,7 @@ pub fn all_but_two(row: Dim) -> u8
 // Puts dart d in the queue, unless it is reached already; the queue's new end.
 fn push(d: u16, reached: &mut [bool; ROOM], queue: &mut [u16; ROOM], tail: usize) -> usize
     requires { ⌜ (d < 4096) × (has (now reached) d ≡ false → tail < 4096) ⌝ }
-    ensures { λ r. ⌜ state (now (reached .exit)) (now (queue .exit)) r ≡ pushed (state (now (reached .entry)) (now (queue .entry)) tail) d ⌝ }
+    ensures { λ r. ⌜ held (reached .exit) (queue .exit) r ≡ pushed (held (reached .entry) (queue .entry) tail) d ⌝ }
 {
     let place = d as usize;
     if reached[place] {
@@ -53,22 +53,29 @@ fn push(d: u16, reached: &mut [bool; ROOM], queue: &mut [u16; ROOM], tail: usize
     tail + 1
 }
 
-// Puts the neighbours of dart d by the rows of its choice in the queue, unless they are reached already; the queue's new end.
+// A search in a map of so many darts and n: the dart that it goes on from, and the queue's end.
+pub struct Search {
+    pub n: Dim,
+    pub darts: u16,
+    pub dart: u16,
+    pub tail: usize,
+}
+
+// Puts the neighbours of a dart by the rows of its choice in the queue, unless they are reached already; the queue's new end.
 fn push_neighbours(
-    n: Dim,
-    darts: u16,
-    table: &[u16],
+    from: Search,
     choice: u8,
-    d: u16,
+    table: &[u16],
     reached: &mut [bool; ROOM],
     queue: &mut [u16; ROOM],
-    tail: usize,
 ) -> usize
-    requires { ⌜ Rows (n .0) darts (now table) × (d < darts) × ((j : ℕ) → j ≤ n .0 → usesOf choice j ≡ true → entry darts (now table) j d < darts) × Stored darts (state (now reached) (now queue) tail) ⌝ }
-    ensures { λ r. ⌜ state (now (reached .exit)) (now (queue .exit)) r ≡ spread (entry darts (now (table .entry))) (usesOf choice) d (state (now (reached .entry)) (now (queue .entry)) tail) (suc (n .0)) ⌝ }
+    requires { ⌜ Spreads from choice (now table) (state (now reached) (now queue) (from .tail)) ⌝ }
+    ensures { λ r. ⌜ held (reached .exit) (queue .exit) r ≡ spread (entry (from .darts) (now (table .entry))) (usesOf choice) (from .dart) (held (reached .entry) (queue .entry) (from .tail)) (suc (from .n .0)) ⌝ }
 {
-    let mut end = tail;
-    for j in 0..n.0 + 1 {
+    let darts = from.darts;
+    let d = from.dart;
+    let mut end = from.tail;
+    for j in 0..from.n.0 + 1 {
         if uses(choice, Dim(j)) {
             let e = answers::at(darts, table, Dim(j), d);
             let next = push(e, reached, queue, end);
@@ -78,25 +85,33 @@ fn push_neighbours(
     end
 }
 
-// Adds the orbit of a dart to the set of darts reached, which no row used leads out of; the queue's end. Before it stand the darts added.
+// Adds the orbit of a dart to the set of darts reached, which no row used leads out of; the queue's new end. From the old one on stand the darts added.
 pub fn orbit(
-    n: Dim,
-    darts: u16,
+    search: Search,
     table: &[u16],
     choices: &[u8; ROOM],
-    start: u16,
     reached: &mut [bool; ROOM],
     queue: &mut [u16; ROOM],
 ) -> usize
-    requires { ⌜ Ready (n .0) darts (now table) (chosen (now choices)) start (has (now reached)) × Room (now reached) (now queue) ⌝ }
-    ensures { λ r. ⌜ Found (n .0) darts (entry darts (now (table .entry))) (chosen (now (choices .entry))) start (state (now (reached .entry)) (now (queue .entry)) 0) (state (now (reached .exit)) (now (queue .exit)) r) ⌝ }
+    requires { ⌜ Ready (search .n .0) (search .darts) (now table) (chosen (now choices)) (search .dart) (has (now reached)) ⌝ }
+    requires { ⌜ Stored (search .darts) (state (now reached) (now queue) (search .tail)) ⌝ }
+    ensures { λ r. ⌜ Finds search (now (table .entry)) (chosen (now (choices .entry))) (held (reached .entry) (queue .entry) (search .tail)) (held (reached .exit) (queue .exit) r) ⌝ }
 {
-    let mut tail = push(start, reached, queue, 0);
-    let mut head: usize = 0;
+    let n = search.n;
+    let darts = search.darts;
+    let mut head = search.tail;
+    let mut tail = push(search.dart, reached, queue, head);
     while head < tail {
-        let d = queue[head];
-        let place = d as usize;
-        let next = push_neighbours(n, darts, table, choices[place], d, reached, queue, tail);
+        let dart = queue[head];
+        let place = dart as usize;
+        let choice = choices[place];
+        let from = Search {
+            n,
+            darts,
+            dart,
+            tail,
+        };
+        let next = push_neighbours(from, choice, table, reached, queue);
         tail = next;
         head = head + 1;
     }

@@ -3,7 +3,7 @@ use mathlib.Core.Path.{_≡_, refl, sym, ap, _∙_}
 use mathlib.Core.Logic.{inl, inr}
 use mathlib.Core.Bool.{Bool, true, false, true≢false}
 use mathlib.Core.List.{List}
-use Prim.Native.Nat.{ℕ, _+_, _≤_, _<_}
+use Prim.Native.Nat.{ℕ, _+_, _≤_, _<_, zero-le}
 use native.Mathlib.Omega.{arith}
 use lib.ListN.{length, getD, set, length-set}
 use lib.Seq.{getD-set-same, getD-set-other}
@@ -88,7 +88,7 @@ module _ (n N : ℕ) (rows choices : List ℕ) where
         orbit-lowest d o = record { reached = back d o; least = λ e q. first-lowest e (orbit-join (entry N rows) n (chosen choices) k d e o q) }
 
         -- so it is given as a name to the darts that the search adds
-        pub naming-add : (within′ : ℕ → Bool) (queue : List ℕ) (end : ℕ) (names′ : List ℕ) → Added (entry N rows) n (chosen choices) k within within′ → Queued N within within′ queue end → Given k queue end names names′ → Naming n N rows choices within′ names′ (k + 1)
+        pub naming-add : (within′ : ℕ → Bool) (queue : List ℕ) (end : ℕ) (names′ : List ℕ) → Added (entry N rows) n (chosen choices) k within within′ → Queued N within within′ queue 0 end → Given k queue end names names′ → Naming n N rows choices within′ names′ (k + 1)
         naming-add within′ queue end names′ w queued g = record {
           long = g .long ∙ s .long;
           closed = w .closed;
@@ -99,9 +99,9 @@ module _ (n N : ℕ) (rows choices : List ℕ) where
           where
             go : (d : ℕ) → within′ d ≡ true → (b : Bool) → within d ≡ b → LowestIn (entry N rows) n (chosen choices) d (each names′ d)
             go d h true q =
-                let same : each names′ d ≡ each names d = g .kept d (λ m lm e. true≢false (sym q ∙ ap within (sym e) ∙ queued .each m lm .1)) in
+                let same : each names′ d ≡ each names d = g .kept d (λ m lm e. true≢false (sym q ∙ ap within (sym e) ∙ queued .each m zero-le lm .1)) in
                 rw same (s .named d q)
             go d h false q =
                 let at = queued .every d q h in
-                let is : each names′ d ≡ k = ap (each names′) (sym (at .2)) ∙ g .given (at .0) (at .1) in
+                let is : each names′ d ≡ k = ap (each names′) (sym (at .3)) ∙ g .given (at .0) (at .2) in
                 rw is (elim (w .only d h) [ inl o ↦ absurd (true≢false (sym o ∙ q)) | inr o ↦ orbit-lowest d o ])

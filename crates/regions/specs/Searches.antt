@@ -7,6 +7,8 @@ use lib.ListN.{length, getD}
 use lib.Dec.{eqb, ltb}
 use Rattle.maps.specs.Map.{Involutions}
 use Rattle.maps.specs.Orbit.{Orbit, TwoWay}
+use Rattle.maps.specs.Folded.{Folded}
+use Rattle.maps.specs.Regions.{regionsLent, RegionsLeave}
 use Rattle.maps.specs.Table.{entry, each}
 use Rattle.answers.specs.Rows.{Rows}
 use Rattle.orbits.specs.Choices.{chosen}
@@ -43,3 +45,7 @@ pub record Given (name : ℕ) (queue : List ℕ) (end : ℕ) (old new : List ℕ
   pub long : length new ≡ length old
   pub given : (k : ℕ) → k < end → each new (getD queue k 0) ≡ name
   pub kept : (d : ℕ) → ((k : ℕ) → k < end → getD queue k 0 ≡ d → ⊥) → each new d ≡ each old d
+
+-- what naming leaves of the lent name row, by its own verdict
+abbrev pub NamingLeaves : Folded → List ℕ → ℕ → List ℕ → List ℕ → Type 0
+NamingLeaves f table l old new = RegionsLeave f l old (regionsLent f table l old) new

@@ -6,16 +6,17 @@ use answers::Level;
 use answers::Mark;
 use answers::ROOM;
 use answers::Refusal;
+use orbits::Search;
 ghost use mathlib.Core.Path.{_≡_};
 ghost use Prim.Native.Nat.{ℕ, _≤_, _<_};
 ghost use lib.ListN.{length, getD};
 ghost use Rattle.maps.specs.Verdict.{scan};
 ghost use Rattle.maps.specs.Table.{entry, each};
-ghost use Rattle.maps.specs.Regions.{at23, regionsLent, regionsTable, RegionsLeave};
+ghost use Rattle.maps.specs.Regions.{at23, regionsLent, regionsTable};
 ghost use Rattle.answers.specs.Pyramid.{lent};
 ghost use Rattle.answers.specs.Numbers.{verdictOf};
 ghost use Rattle.orbits.specs.Choices.{uses, chosen};
-ghost use Rattle.regions.specs.Searches.{goesOn, RegionChoices, Leads, Lowests, Given};
+ghost use Rattle.regions.specs.Searches.{goesOn, RegionChoices, Leads, Lowests, Given, NamingLeaves};
 
 // The first contracted dart.
 fn contracted(darts: u16, delta: &[u8]) -> Check
@@ -76,7 +77,13 @@ fn name_orbits(n: Dim, darts: u16, rows: &[u16], choices: &[u8; ROOM], names: &m
     for start in 0..darts {
         let at = start as usize;
         if !reached[at] {
-            let end = orbits::orbit(n, darts, rows, choices, start, &mut reached, &mut queue);
+            let search = Search {
+                n,
+                darts,
+                dart: start,
+                tail: 0,
+            };
+            let end = orbits::orbit(search, rows, choices, &mut reached, &mut queue);
             give(start, &queue, end, names);
         }
     }
@@ -93,7 +100,7 @@ pub fn name_regions(
 ) -> Check
     ensures verdict { λ r. ⌜ verdictOf r ≡ regionsLent (lent (at .sizes) (rows .entry) (lambda .entry) (delta .entry)) (now (table .entry)) (at .level .0) (now (names .entry)) ⌝ }
     ensures table_left { λ _. ⌜ now (table .exit) ≡ regionsTable (lent (at .sizes) (rows .entry) (lambda .entry) (delta .entry)) (now (table .entry)) (at .level .0) (now (names .entry)) ⌝ }
-    ensures names_left { λ _. ⌜ RegionsLeave (lent (at .sizes) (rows .entry) (lambda .entry) (delta .entry)) (at .level .0) (now (names .entry)) (regionsLent (lent (at .sizes) (rows .entry) (lambda .entry) (delta .entry)) (now (table .entry)) (at .level .0) (now (names .entry))) (now (names .exit)) ⌝ }
+    ensures names_left { λ _. ⌜ NamingLeaves (lent (at .sizes) (rows .entry) (lambda .entry) (delta .entry)) (now (table .entry)) (at .level .0) (now (names .entry)) (now (names .exit)) ⌝ }
 {
     let sizes = at.sizes;
     if !answers::row_fits(sizes.darts, names.len()) {

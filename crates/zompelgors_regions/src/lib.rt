@@ -5,9 +5,10 @@ use answers::Dim;
 use answers::Level;
 use answers::Sizes;
 ghost use mathlib.Core.Path.{_≡_};
-ghost use Rattle.maps.specs.Regions.{regionsLent, regionsTable, RegionsLeave};
+ghost use Rattle.maps.specs.Regions.{regionsLent, regionsTable};
 ghost use Rattle.answers.specs.Pyramid.{given};
 ghost use Rattle.answers.specs.Numbers.{verdictOf};
+ghost use Rattle.regions.specs.Searches.{NamingLeaves};
 ghost use Rattle.zompelgors_regions.specs.Flat.{refusalFor};
 
 // The document's number and values; all 0 where accepted. The first library's struct of that name in C.
@@ -57,7 +58,7 @@ pub extern "C" fn zg_regions(
 ) -> ZgRefusal
     ensures answer { λ r. ⌜ r ≡ refusalFor (regionsLent (given n darts h (rows .entry) (lambda .entry) (delta .entry)) (now (table .entry)) level (now (names .entry))) ⌝ }
     ensures table_left { λ _. ⌜ now (table .exit) ≡ regionsTable (given n darts h (rows .entry) (lambda .entry) (delta .entry)) (now (table .entry)) level (now (names .entry)) ⌝ }
-    ensures names_left { λ _. ⌜ RegionsLeave (given n darts h (rows .entry) (lambda .entry) (delta .entry)) level (now (names .entry)) (regionsLent (given n darts h (rows .entry) (lambda .entry) (delta .entry)) (now (table .entry)) level (now (names .entry))) (now (names .exit)) ⌝ }
+    ensures names_left { λ _. ⌜ NamingLeaves (given n darts h (rows .entry) (lambda .entry) (delta .entry)) (now (table .entry)) level (now (names .entry)) (now (names .exit)) ⌝ }
 {
     let sizes = Sizes {
         n: Dim(n),

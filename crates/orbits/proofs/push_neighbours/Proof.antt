@@ -15,32 +15,32 @@ use Rattle.orbits.proofs.push_neighbours.Statement.{statement}
 use Rattle.orbits.proofs.push_neighbours.Tie as tie
 
 abbrev Inv-loop : tie.InvT-loop
-Inv-loop darts table choice d reached₀ queue₀ tail end₀ j₀ j-end reached queue end j =
-    (j ≤ j-end) × (state reached queue end ≡ spread (entry darts table) (uses choice) d (state reached₀ queue₀ tail) j)
+Inv-loop choice table reached₀ queue₀ darts d end₀ j₀ j-end reached queue end j =
+    (j ≤ j-end) × (state reached queue end ≡ spread (entry darts table) (uses choice) d (state reached₀ queue₀ end₀) j)
 
 abbrev μ-loop : tie.MeasureT-loop
-μ-loop darts table choice d reached₀ queue₀ tail end₀ j₀ j-end reached queue end j = j-end - j
+μ-loop choice table reached₀ queue₀ darts d end₀ j₀ j-end reached queue end j = j-end - j
 
 -- what is stored stays in its bounds
-stored : (c : tie.In-loop Inv-loop μ-loop) → let a = c .before .before .before .before .args in let l = c .before .loop in Stored (a .darts) (state (l .reached) (l .queue) (l .end))
+stored : (c : tie.In-loop Inv-loop μ-loop) → let a = c .before .before .before .before .args in let l = c .before .loop in Stored (a .from .darts) (state (l .reached) (l .queue) (l .end))
 stored c =
     let s = c .before .before .before .before in
     let a = s .args in
     let l = c .before .loop in
-    rw (l .inv .1) (spread-stored (entry (a .darts) (now (a .table))) (uses (a .choice)) (a .d) (state (now (a .reached)) (now (a .queue)) (a .tail)) (a .n .0) (a .darts) (s .pre .0 .darts) (s .pre .2) (s .pre .3) (l .j) (omega arith))
+    rw (l .inv .1) (spread-stored (entry (a .from .darts) (now (a .table))) (uses (a .choice)) (a .from .dart) (state (now (a .reached)) (now (a .queue)) (a .from .tail)) (a .from .n .0) (a .from .darts) (s .pre .rows .darts) (s .pre .inside) (s .pre .stored) (l .j) (omega arith))
 
 add-j-end : tie.Need-add-j-end Inv-loop μ-loop
-add-j-end c = let p = c .before .before .pre .0 .dimension in omega arith
+add-j-end c = let p = c .before .before .pre .rows .dimension in omega arith
 
 loop-holds : tie.Need-loop-holds Inv-loop μ-loop
 unfolding spread
 loop-holds c = (zero-le, refl)
 
 uses-requires : tie.Need-uses-requires Inv-loop μ-loop
-uses-requires c κs = let p = c .before .before .before .before .pre .0 .dimension in omega arith
+uses-requires c κs = let p = c .before .before .before .before .pre .rows .dimension in omega arith
 
 at-requires : tie.Need-at-requires Inv-loop μ-loop
-at-requires c κs = let s = c .before .before .before .before .before .before in rows-entry (s .args .n .0) (s .args .darts) (now (s .args .table)) (s .pre .0) (c .before .before .before .loop .j) (s .args .d) (omega arith) (s .pre .1)
+at-requires c κs = let s = c .before .before .before .before .before .before in rows-entry (s .args .from .n .0) (s .args .from .darts) (now (s .args .table)) (s .pre .rows) (c .before .before .before .loop .j) (s .args .from .dart) (omega arith) (s .pre .dart)
 
 push-requires : tie.Need-push-requires Inv-loop μ-loop
 push-requires c κs =
@@ -50,12 +50,12 @@ push-requires c κs =
     let a = s .args in
     let z = stored (test .before .before) in
     let e = c .before .before .at .result in
-    let le : e < a .darts = rw (c .before .before .at .ensures) (s .pre .2 (l .j) (omega arith) (sym (test .before .uses .ensures) ∙ test .if1 .taken)) in
-    let few = s .pre .0 .darts in
-    (omega arith, λ h. omega (arith, room-left (l .reached) (l .end) e (a .darts) (z .few) (omega (arith, z .room .reached-long)) le h))
+    let le : e < a .from .darts = rw (c .before .before .at .ensures) (s .pre .inside (l .j) (omega arith) (sym (test .before .uses .ensures) ∙ test .if1 .taken)) in
+    let few = s .pre .rows .darts in
+    (omega arith, λ h. omega (arith, room-left (l .reached) (l .end) e (a .from .darts) (z .few) (omega (arith, z .room .reached-long)) le h))
 
 add-j : tie.Need-add-j Inv-loop μ-loop
-add-j c = let p = c .before .before .before .before .before .before .pre .0 .dimension in omega arith
+add-j c = let p = c .before .before .before .before .before .before .pre .rows .dimension in omega arith
 
 loop-less : tie.Need-loop-less Inv-loop μ-loop
 loop-less c = search needs
@@ -64,12 +64,12 @@ loop-again : tie.Need-loop-again Inv-loop μ-loop
 loop-again c =
     let a = c .before .before .before .before .before .before .args in
     let l = c .before .before .before .loop in
-    let s = state (now (a .reached)) (now (a .queue)) (a .tail) in
+    let s = state (now (a .reached)) (now (a .queue)) (a .from .tail) in
     let t = state (l .reached) (l .queue) (l .end) in (
       omega arith,
       elim (c .if1 .came) [
-        | inl w ↦ rw (w .5, w .6, w .7) (w .4 .ensures ∙ spread-used (entry (a .darts) (now (a .table))) (uses (a .choice)) (a .d) s (l .j) t (l .inv .1) (sym (c .before .uses .ensures) ∙ w .0 .taken) (w .1 .result) (w .1 .ensures))
-        | inr w ↦ rw (w .1, w .2, w .3) (spread-unused (entry (a .darts) (now (a .table))) (uses (a .choice)) (a .d) s (l .j) t (l .inv .1) (sym (c .before .uses .ensures) ∙ w .0 .left))
+        | inl w ↦ rw (w .5, w .6, w .7) (w .4 .ensures ∙ spread-used (entry (a .from .darts) (now (a .table))) (uses (a .choice)) (a .from .dart) s (l .j) t (l .inv .1) (sym (c .before .uses .ensures) ∙ w .0 .taken) (w .1 .result) (w .1 .ensures))
+        | inr w ↦ rw (w .1, w .2, w .3) (spread-unused (entry (a .from .darts) (now (a .table))) (uses (a .choice)) (a .from .dart) s (l .j) t (l .inv .1) (sym (c .before .uses .ensures) ∙ w .0 .left))
       ],
     )
 
@@ -77,8 +77,8 @@ returns : tie.Need-returns Inv-loop μ-loop
 returns c =
     let a = c .before .before .before .before .args in
     let l = c .before .loop in
-    let e : l .j ≡ suc (a .n .0) = omega arith in
-    l .inv .1 ∙ ap (spread (entry (a .darts) (now (a .table))) (uses (a .choice)) (a .d) (state (now (a .reached)) (now (a .queue)) (a .tail))) e
+    let e : l .j ≡ suc (a .from .n .0) = omega arith in
+    l .inv .1 ∙ ap (spread (entry (a .from .darts) (now (a .table))) (uses (a .choice)) (a .from .dart) (state (now (a .reached)) (now (a .queue)) (a .from .tail))) e
 
 pub push-neighbours-spec : {M : Type 1} → statement M
 push-neighbours-spec =

@@ -7,7 +7,7 @@ use denote.Ref.{now}
 use borrow.Author.Needs.{needs}
 use borrow.Author.Tests.{not-true, not-false}
 use Rattle.orbits.specs.Search.{has, Room}
-use Rattle.orbits.proofs.OrbitLaws.{none, none-has, none-room}
+use Rattle.orbits.proofs.OrbitLaws.{none, none-has, none-room, queue-empty}
 use Rattle.regions.proofs.Naming.{Naming, naming-none, naming-all, naming-pass, naming-ready, naming-add}
 use Rattle.regions.proofs.name_orbits.Statement.{statement}
 use Rattle.regions.proofs.name_orbits.Tie as tie
@@ -37,7 +37,7 @@ orbit-requires c κs =
     let l = inner .before .loop in
     let s = inner .before .before .before .before in
     let a = s .args in
-    (naming-ready (a .n .0) (a .darts) (now (a .rows)) (now (a .choices)) (has (l .reached)) (l .names) (l .start) (l .inv .1) (s .pre .0) (inner .loop-test .taken), l .inv .2)
+    (naming-ready (a .n .0) (a .darts) (now (a .rows)) (now (a .choices)) (has (l .reached)) (l .names) (l .start) (l .inv .1) (s .pre .0) (inner .loop-test .taken), queue-empty (l .inv .2))
 
 give-requires : tie.Need-give-requires Inv-loop μ-loop
 give-requires c κs =
@@ -45,7 +45,7 @@ give-requires c κs =
     let at = c .before .before .before .before .before .before .before in
     let long = at .loop .inv .1 .long in
     let rows = at .before .before .before .pre .0 .rows in
-    (omega (arith, queued .few, rows .darts), omega (arith, long, rows .darts), λ k lk. omega (arith, long, queued .each k lk .0))
+    (omega (arith, queued .few, rows .darts), omega (arith, long, rows .darts), λ k lk. omega (arith, long, queued .each k zero-le lk .0))
 
 add-start : tie.Need-add-start Inv-loop μ-loop
 add-start c = search needs
@@ -61,11 +61,11 @@ loop-again c =
     elim (c .if1 .came) [
       | inl w ↦
           let found = w .3 .ensures in
-          let reached = w .3 .last .1 .1 .1 .1 .1 .0 in
-          let queue = w .3 .last .1 .1 .1 .1 .1 .1 .0 in
+          let reached = w .3 .last .1 .1 .1 .0 in
+          let queue = w .3 .last .1 .1 .1 .1 .0 in
           let names = w .6 .last .1 .1 .1 .0 in
           let next = naming-add (a .n .0) (a .darts) (now (a .rows)) (now (a .choices)) (has (l .reached)) (l .names) (l .start) (l .inv .1) (s .pre .0) (c .before .loop-test .taken) (not-true (has (l .reached) (l .start)) (w .0 .taken)) (has reached) queue (w .3 .result) names (found .added) (found .queued) (w .6 .ensures) in
-          (omega arith, rw (w .9, w .10) next, rw (w .10, w .11) (found .room))
+          (omega arith, rw (w .9, w .10) next, rw (w .10, w .11) (found .stored .room))
       | inr w ↦ (omega arith, rw (w .1, w .2) (naming-pass (a .n .0) (a .darts) (now (a .rows)) (now (a .choices)) (has (l .reached)) (l .names) (l .start) (l .inv .1) (not-false (has (l .reached) (l .start)) (w .0 .left))), rw (w .2, w .3) (l .inv .2))
     ]
 

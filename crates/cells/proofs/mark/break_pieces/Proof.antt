@@ -12,6 +12,7 @@ use Rattle.maps.specs.CheckBase.{present}
 use Rattle.laws.proofs.Verdicts.{and-both, and-rest}
 use Rattle.answers.proofs.Rows.{rows-entry}
 use Rattle.orbits.specs.Search.{has, Room}
+use Rattle.orbits.proofs.Sets.{queue-empty}
 use Rattle.orbits.proofs.Explicit.{level-ready, level-added}
 use Rattle.cells.specs.Marked.{Gathered}
 use Rattle.cells.proofs.Cells.{gathered-none, gathered-pass, gathered-add}
@@ -67,7 +68,7 @@ orbit-requires c κs =
     let there = test .before .before .before .there in
     let t = and-both (there .result && has (now (a .reached)) (l .d)) (not (has (l .pieces) (l .d))) (test .if1 .taken) in
     let p = and-both (there .result) (has (now (a .reached)) (l .d)) (t .0) in
-    (level-ready (a .n .0) (a .darts) (now (a .table)) (s .pre .0) (loop .before .every-row .result) (λ j. true) (loop .before .every-row .ensures) (l .d) (l .pieces) (l .queue) (inner .loop-test .taken, sym (there .ensures) ∙ p .0) (l .inv .2) (l .inv .1 .closed), l .inv .2)
+    (level-ready (a .n .0) (a .darts) (now (a .table)) (s .pre .0) (loop .before .every-row .result) (λ j. true) (loop .before .every-row .ensures) (l .d) (l .pieces) (l .queue) (inner .loop-test .taken, sym (there .ensures) ∙ p .0) (l .inv .2) (l .inv .1 .closed), queue-empty (l .inv .2))
 
 add-d : tie.Need-add-d Inv-loop μ-loop
 add-d c = search needs
@@ -89,9 +90,9 @@ loop-again c =
       | inl w ↦
           let t = and-both (there .result && has (now (a .reached)) (l .d)) (not (has (l .pieces) (l .d))) (w .0 .taken) in
           let p = and-both (there .result) (has (now (a .reached)) (l .d)) (t .0) in
-          let room = w .4 .ensures .room in
-          let set = w .4 .last .1 .1 .1 .1 .1 .0 in
-          let added = level-added (a .n .0) (a .darts) (now (a .table)) (s .pre .0) (loop .before .every-row .result) (λ j. true) (loop .before .every-row .ensures) (l .d) (l .pieces) set (w .4 .last .1 .1 .1 .1 .1 .1 .0) (inner .loop-test .taken, sym (there .ensures) ∙ p .0) room (w .4 .ensures .added) in
+          let room = w .4 .ensures .stored .room in
+          let set = w .4 .last .1 .1 .1 .0 in
+          let added = level-added (a .n .0) (a .darts) (now (a .table)) (s .pre .0) (loop .before .every-row .result) (λ j. true) (loop .before .every-row .ensures) (l .d) (l .pieces) set (w .4 .last .1 .1 .1 .1 .0) (inner .loop-test .taken, sym (there .ensures) ∙ p .0) room (w .4 .ensures .added) in
           (omega arith, rw (w .5) (gathered-add (a .n .0) (a .darts) (now (a .table)) (λ j. true) test (has (l .pieces)) (has set) (l .d) (l .inv .1) (is ∙ t .0) (inner .loop-test .taken) added), rw (w .5, w .6) room)
       | inr w ↦
           let reached : test (l .d) ≡ true → has (l .pieces) (l .d) ≡ true = λ e. not-false (has (l .pieces) (l .d)) (and-rest (there .result && has (now (a .reached)) (l .d)) (not (has (l .pieces) (l .d))) (sym is ∙ e) (w .0 .left)) in

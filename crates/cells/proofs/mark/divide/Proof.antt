@@ -11,7 +11,7 @@ use Rattle.maps.specs.Parts.{besides}
 use Rattle.maps.specs.Table.{entry}
 use Rattle.answers.proofs.Rows.{rows-entry}
 use Rattle.orbits.specs.Search.{has, Room}
-use Rattle.orbits.proofs.Sets.{none-has}
+use Rattle.orbits.proofs.Sets.{none-has, queue-empty}
 use Rattle.orbits.proofs.Decided.{none}
 use Rattle.orbits.specs.Explicit.{but}
 use Rattle.orbits.proofs.Explicit.{Present, level-valid, level-ready, level-added}
@@ -70,10 +70,10 @@ orbit-requires c κs =
     let s = start o in
     let a = s .args in
     let l = o .loop in
-    (level-ready (a .n .0) (a .darts) (now (a .table)) (s .pre .0) (o .before .before .all-but-two .result) (besides (a .dimension .0)) (o .before .before .all-but-two .ensures) (l .d) (l .parts) (l .queue) (told t .0) (l .inv .3) (l .inv .1 .parts-closed), l .inv .3)
+    (level-ready (a .n .0) (a .darts) (now (a .table)) (s .pre .0) (o .before .before .all-but-two .result) (besides (a .dimension .0)) (o .before .before .all-but-two .ensures) (l .d) (l .parts) (l .queue) (told t .0) (l .inv .3) (l .inv .1 .parts-closed), queue-empty (l .inv .3))
 
-add-t23 : tie.Need-add-t23 Inv-loop μ-loop
-add-t23 c = search needs
+add-t24 : tie.Need-add-t24 Inv-loop μ-loop
+add-t24 c = search needs
 
 at-requires : tie.Need-at-requires Inv-loop μ-loop
 at-requires c κs =
@@ -99,9 +99,9 @@ orbit-requires-2 c κs =
     let s = start o in
     let a = s .args in
     let l = o .loop in
-    let queue = searched .last .1 .1 .1 .1 .1 .1 .0 in
-    let room : Room (l .reached) queue = record { reached-long = l .inv .2 .reached-long; queue-long = searched .ensures .room .queue-long } in
-    (level-ready (a .n .0) (a .darts) (now (a .table)) (s .pre .0) (o .before .all-but .result) (but (a .dimension .0)) (o .before .all-but .ensures) (l .d) (l .reached) queue (told t .0) room (l .inv .1 .cells-closed), room)
+    let queue = searched .last .1 .1 .1 .1 .0 in
+    let room : Room (l .reached) queue = record { reached-long = l .inv .2 .reached-long; queue-long = searched .ensures .stored .room .queue-long } in
+    (level-ready (a .n .0) (a .darts) (now (a .table)) (s .pre .0) (o .before .all-but .result) (but (a .dimension .0)) (o .before .all-but .ensures) (l .d) (l .reached) queue (told t .0) room (l .inv .1 .cells-closed), queue-empty room)
 
 add-d : tie.Need-add-d Inv-loop μ-loop
 add-d c = search needs
@@ -121,19 +121,19 @@ loop-again c =
     elim (c .if1 .came) [
       | inl w ↦
           let is = told (record { before = c .before; if1 = w .0 }) in
-          let parts = w .4 .last .1 .1 .1 .1 .1 .0 in
-          let added = level-added (a .n .0) N T (s .pre .0) (o .before .before .all-but-two .result) (besides δ) (o .before .before .all-but-two .ensures) (l .d) (l .parts) parts (w .4 .last .1 .1 .1 .1 .1 .1 .0) (is .0) (w .4 .ensures .room) (w .4 .ensures .added) in
-          let cells = w .11 .last .1 .1 .1 .1 .1 .0 in
-          let spoilt = level-added (a .n .0) N T (s .pre .0) (o .before .all-but .result) (but δ) (o .before .all-but .ensures) (l .d) (l .reached) cells (w .11 .last .1 .1 .1 .1 .1 .1 .0) (is .0) (w .11 .ensures .room) (w .11 .ensures .added) in
+          let parts = w .4 .last .1 .1 .1 .0 in
+          let added = level-added (a .n .0) N T (s .pre .0) (o .before .before .all-but-two .result) (besides δ) (o .before .before .all-but-two .ensures) (l .d) (l .parts) parts (w .4 .last .1 .1 .1 .1 .0) (is .0) (w .4 .ensures .stored .room) (w .4 .ensures .added) in
+          let cells = w .11 .last .1 .1 .1 .0 in
+          let spoilt = level-added (a .n .0) N T (s .pre .0) (o .before .all-but .result) (but δ) (o .before .all-but .ensures) (l .d) (l .reached) cells (w .11 .last .1 .1 .1 .1 .0) (is .0) (w .11 .ensures .stored .room) (w .11 .ensures .added) in
           let one = dividing-one (a .n .0) N T δ (s .pre .0) (s .pre .1) (has (l .reached)) (has (l .parts)) (l .d) (l .inv .1) (is .0) (is .1) (has parts) added (is .2) (rw (w .6 .ensures) at (w .7 .taken)) (has cells) spoilt in
-          (omega arith, rw (w .12, w .14) one, rw (w .12, w .13) (w .11 .ensures .room), rw (w .13, w .14) (record { reached-long = w .4 .ensures .room .reached-long; queue-long = w .11 .ensures .room .queue-long }))
+          (omega arith, rw (w .12, w .14) one, rw (w .12, w .13) (w .11 .ensures .stored .room), rw (w .13, w .14) (record { reached-long = w .4 .ensures .stored .room .reached-long; queue-long = w .11 .ensures .stored .room .queue-long }))
       | inr w ↦ elim w [
         | inl x ↦
             let is = told (record { before = c .before; if1 = x .0 }) in
-            let parts = x .4 .last .1 .1 .1 .1 .1 .0 in
-            let added = level-added (a .n .0) N T (s .pre .0) (o .before .before .all-but-two .result) (besides δ) (o .before .before .all-but-two .ensures) (l .d) (l .parts) parts (x .4 .last .1 .1 .1 .1 .1 .1 .0) (is .0) (x .4 .ensures .room) (x .4 .ensures .added) in
+            let parts = x .4 .last .1 .1 .1 .0 in
+            let added = level-added (a .n .0) N T (s .pre .0) (o .before .before .all-but-two .result) (besides δ) (o .before .before .all-but-two .ensures) (l .d) (l .parts) parts (x .4 .last .1 .1 .1 .1 .0) (is .0) (x .4 .ensures .stored .room) (x .4 .ensures .added) in
             let two = dividing-two (a .n .0) N T δ (s .pre .0) (s .pre .1) (has (l .reached)) (has (l .parts)) (l .d) (l .inv .1) (is .0) (is .1) (has parts) added (rw (x .6 .ensures) at (x .7 .left)) in
-            (omega arith, rw (x .8, x .10) two, rw (x .8, x .9) (record { reached-long = l .inv .2 .reached-long; queue-long = x .4 .ensures .room .queue-long }), rw (x .9, x .10) (x .4 .ensures .room))
+            (omega arith, rw (x .8, x .10) two, rw (x .8, x .9) (record { reached-long = l .inv .2 .reached-long; queue-long = x .4 .ensures .stored .room .queue-long }), rw (x .9, x .10) (x .4 .ensures .stored .room))
         | inr x ↦ (omega arith, rw (x .1, x .3) (dividing-pass (a .n .0) N T δ (s .pre .0) (s .pre .1) (has (l .reached)) (has (l .parts)) (l .d) (l .inv .1) (sym (c .before .undecided .ensures) ∙ x .0 .left)), rw (x .1, x .2) (l .inv .2), rw (x .2, x .3) (l .inv .3))
       ]
     ]
@@ -157,7 +157,7 @@ divide-spec =
     loop-holds
     undecided-requires
     orbit-requires
-    add-t23
+    add-t24
     at-requires
     cast-over
     array-read-if2

@@ -1,6 +1,6 @@
 -- `cells::mark::fails` meets its contract. Assumes nothing.
 use mathlib.Core.Path.{sym, _∙_}
-use Prim.Native.Nat.{ℕ, _+_, _*_, _≤_, _<_, zero-le}
+use Prim.Native.Nat.{ℕ, _+_, _-_, _*_, _≤_, _<_, zero-le}
 use native.Mathlib.Omega.{arith}
 use lib.ListN.{length}
 use denote.Ref.{now}
@@ -31,40 +31,32 @@ there-requires c κs = let s = c .before .before .before .before in entries c 0 
 returns-2 : tie.Need-returns-2
 returns-2 c = simp (lt-ltb _ _ (c .before .before .if1 .left), sym (c .before .there .ensures) ∙ not-true (c .before .there .result) (c .if2 .taken))
 
-add-t12 : tie.Need-add-t12
-add-t12 c = search needs
+add-t8 : tie.Need-add-t8
+add-t8 c = search needs
 
-add-t12-2 : tie.Need-add-t12-2
-add-t12-2 c = search needs
+add-t8-2 : tie.Need-add-t8-2
+add-t8-2 c = search needs
 
-at-requires : tie.Need-at-requires
-at-requires c κs =
-    let below = c .before .before .before .before in
-    let s = below .before .before .before .before in
-    entries below (s .args .dimension .0 + 1) (s .args .d) (omega arith) (s .pre .2)
-
-at-requires-2 : tie.Need-at-requires-2
-at-requires-2 c κs =
-    let below = c .before .before .before .before .before in
-    let s = below .before .before .before .before in
-    entries below (s .args .dimension .0 + 2) (s .args .d) (omega arith) (s .pre .2)
-
-at-requires-3 : tie.Need-at-requires-3
-at-requires-3 c κs =
-    let there = c .before .before .before .before in
+commute-requires : tie.Need-commute-requires
+commute-requires c κs =
+    let there = c .before .before in
     let below = there .before .before in
-    let δ = below .before .before .before .before .args .dimension .0 in
-    entries below (δ + 2) (c .before .at .result) (omega arith) (rw (c .before .at .ensures) (inside there (δ + 1) (omega arith)))
-
-at-requires-4 : tie.Need-at-requires-4
-at-requires-4 c κs =
-    let there = c .before .before .before .before .before in
-    let below = there .before .before in
-    let δ = below .before .before .before .before .args .dimension .0 in
-    entries below (δ + 1) (c .before .at2 .result) (omega arith) (rw (c .before .at2 .ensures) (inside there (δ + 2) (omega arith)))
+    let s = below .before .before .before .before in
+    let δ = s .args .dimension .0 in
+    let last = s .args .darts - 1 in
+    let low = entries below (δ + 1) last (omega arith) (omega (arith, s .pre .2)) in
+    let high = entries below (δ + 2) last (omega arith) (omega (arith, s .pre .2)) in
+    record {
+      row-i = omega (arith, low .0, s .pre .2);
+      row-j = omega (arith, high .0, s .pre .2);
+      small = low .1;
+      dart = s .pre .2;
+      by-i = inside there (δ + 1) (omega arith);
+      by-j = inside there (δ + 2) (omega arith);
+    }
 
 returns-3 : tie.Need-returns-3
-returns-3 c = let e = c .before .before .before .before .before .before in simp (lt-ltb _ _ (e .before .before .if1 .left), sym (e .before .there .ensures) ∙ not-false (e .before .there .result) (e .if2 .left), c .at4 .ensures, c .before .at3 .ensures, c .before .before .at2 .ensures, c .before .before .before .at .ensures)
+returns-3 c = let e = c .before .before .before in simp (lt-ltb _ _ (e .before .before .if1 .left), sym (e .before .there .ensures) ∙ not-false (e .before .there .result) (e .if2 .left), c .commute .ensures)
 
 pub fails-spec : {M : Type 1} → statement M
 fails-spec =
@@ -74,10 +66,7 @@ fails-spec =
     returns
     there-requires
     returns-2
-    add-t12
-    add-t12-2
-    at-requires
-    at-requires-2
-    at-requires-3
-    at-requires-4
+    add-t8
+    add-t8-2
+    commute-requires
     returns-3)

@@ -15,7 +15,7 @@ use Rattle.answers.proofs.Rows.{rows-entry}
 use Rattle.orbits.specs.Choices.{uses}
 use Rattle.orbits.specs.Search.{has, Room}
 use Rattle.orbits.specs.Orbits.{Closed}
-use Rattle.orbits.proofs.Sets.{none-has}
+use Rattle.orbits.proofs.Sets.{none-has, queue-empty}
 use Rattle.orbits.specs.Explicit.{but}
 use Rattle.orbits.proofs.Explicit.{Present, level-ready, level-added}
 use Rattle.cells.specs.Marked.{Lacks}
@@ -96,7 +96,7 @@ orbit-requires c κs =
     let s = start (broken o) in
     let a = s .args in
     let l = o .loop in
-    (level-ready (a .n .0) (a .darts) (now (a .table)) (s .pre .0) (o .before .before .all-but .result) (but (a .dimension .0)) (o .before .before .all-but .ensures) (l .d) (l .reached) (l .queue) (told t .0) (l .inv .2) (sparing o .cells-closed), l .inv .2)
+    (level-ready (a .n .0) (a .darts) (now (a .table)) (s .pre .0) (o .before .before .all-but .result) (but (a .dimension .0)) (o .before .before .all-but .ensures) (l .d) (l .reached) (l .queue) (told t .0) (l .inv .2) (sparing o .cells-closed), queue-empty (l .inv .2))
 
 orbit-requires-2 : tie.Need-orbit-requires-2 Inv-loop μ-loop
 orbit-requires-2 c κs =
@@ -106,9 +106,9 @@ orbit-requires-2 c κs =
     let s = start (broken o) in
     let a = s .args in
     let l = o .loop in
-    let queue = searched .last .1 .1 .1 .1 .1 .1 .0 in
-    let room : Room (l .pieces) queue = record { reached-long = l .inv .3 .reached-long; queue-long = searched .ensures .room .queue-long } in
-    (level-ready (a .n .0) (a .darts) (now (a .table)) (s .pre .0) (o .before .every-row .result) (λ j. true) (o .before .every-row .ensures) (l .d) (l .pieces) queue (told t .0) room (sparing o .closed), room)
+    let queue = searched .last .1 .1 .1 .1 .0 in
+    let room : Room (l .pieces) queue = record { reached-long = l .inv .3 .reached-long; queue-long = searched .ensures .stored .room .queue-long } in
+    (level-ready (a .n .0) (a .darts) (now (a .table)) (s .pre .0) (o .before .every-row .result) (λ j. true) (o .before .every-row .ensures) (l .d) (l .pieces) queue (told t .0) room (sparing o .closed), queue-empty room)
 
 add-d : tie.Need-add-d Inv-loop μ-loop
 add-d c = search needs
@@ -128,15 +128,15 @@ loop-again c =
     elim (c .if1 .came) [
       | inl w ↦
           let is = told (record { before = c .before; if1 = w .0 }) in
-          let cells = w .4 .last .1 .1 .1 .1 .1 .0 in
-          let pieces = w .8 .last .1 .1 .1 .1 .1 .0 in
-          let done = level-added (a .n .0) N T (s .pre .0) (o .before .every-row .result) (λ j. true) (o .before .every-row .ensures) (l .d) (l .pieces) pieces (w .8 .last .1 .1 .1 .1 .1 .1 .0) (is .0) (w .8 .ensures .room) (w .8 .ensures .added) in (
+          let cells = w .4 .last .1 .1 .1 .0 in
+          let pieces = w .8 .last .1 .1 .1 .0 in
+          let done = level-added (a .n .0) N T (s .pre .0) (o .before .every-row .result) (λ j. true) (o .before .every-row .ensures) (l .d) (l .pieces) pieces (w .8 .last .1 .1 .1 .1 .0) (is .0) (w .8 .ensures .stored .room) (w .8 .ensures .added) in (
             omega arith,
             λ δ is-but closed lacks.
-                let left = level-added (a .n .0) N T (s .pre .0) (o .before .before .all-but .result) (but δ) is-but (l .d) (l .reached) cells (w .4 .last .1 .1 .1 .1 .1 .1 .0) (is .0) (w .4 .ensures .room) (w .4 .ensures .added) in
+                let left = level-added (a .n .0) N T (s .pre .0) (o .before .before .all-but .result) (but δ) is-but (l .d) (l .reached) cells (w .4 .last .1 .1 .1 .1 .0) (is .0) (w .4 .ensures .stored .room) (w .4 .ensures .added) in
                 rw (w .9, w .11) (sparing-add (a .n .0) N T δ (has (now (a .reached))) (s .pre .0) lacks (has (l .reached)) (has (l .pieces)) (l .d) (l .inv .1 δ is-but closed lacks) (is .0) (is .1) (has cells) (has pieces) left done),
-            rw (w .9, w .10) (record { reached-long = w .4 .ensures .room .reached-long; queue-long = w .8 .ensures .room .queue-long }),
-            rw (w .10, w .11) (w .8 .ensures .room),
+            rw (w .9, w .10) (record { reached-long = w .4 .ensures .stored .room .reached-long; queue-long = w .8 .ensures .stored .room .queue-long }),
+            rw (w .10, w .11) (w .8 .ensures .stored .room),
           )
       | inr w ↦
           let reached : Present (a .n .0) N T (l .d) → has (l .pieces) (l .d) ≡ true = λ p. not-false (has (l .pieces) (l .d)) (and-rest (there .result) (not (has (l .pieces) (l .d))) (there .ensures ∙ p .1) (w .0 .left)) in

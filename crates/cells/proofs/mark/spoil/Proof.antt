@@ -8,6 +8,7 @@ use denote.Ref.{now}
 use borrow.Author.Needs.{needs}
 use borrow.Author.Tests.{not-false}
 use Rattle.orbits.specs.Search.{has, Room}
+use Rattle.orbits.proofs.Sets.{queue-empty}
 use Rattle.orbits.specs.Explicit.{but}
 use Rattle.orbits.proofs.Explicit.{level-ready, level-added}
 use Rattle.cells.specs.Marked.{failing, Gathered}
@@ -50,7 +51,7 @@ orbit-requires c κs =
     let l = loop .loop in
     let failed = sym (test .before .fails .ensures) ∙ test .if2 .taken in
     let there = fails-tells (a .n .0) (a .darts) (now (a .table)) (a .dimension .0) (l .d) failed .1 in
-    (level-ready (a .n .0) (a .darts) (now (a .table)) (s .pre .0) (loop .before .all-but .result) (but (a .dimension .0)) (loop .before .all-but .ensures) (l .d) (l .reached) (l .queue) (inner .loop-test .taken, there) (l .inv .2) (l .inv .1 .closed), l .inv .2)
+    (level-ready (a .n .0) (a .darts) (now (a .table)) (s .pre .0) (loop .before .all-but .result) (but (a .dimension .0)) (loop .before .all-but .ensures) (l .d) (l .reached) (l .queue) (inner .loop-test .taken, there) (l .inv .2) (l .inv .1 .closed), queue-empty (l .inv .2))
 
 add-d : tie.Need-add-d Inv-loop μ-loop
 add-d c = search needs
@@ -69,9 +70,9 @@ loop-again c =
       | inl w ↦
           let failed = sym (w .1 .ensures) ∙ w .2 .taken in
           let there = fails-tells (a .n .0) (a .darts) (now (a .table)) (a .dimension .0) (l .d) failed .1 in
-          let room = w .6 .ensures .room in
-          let set = w .6 .last .1 .1 .1 .1 .1 .0 in
-          let added = level-added (a .n .0) (a .darts) (now (a .table)) (s .pre .0) (loop .before .all-but .result) (but (a .dimension .0)) (loop .before .all-but .ensures) (l .d) (l .reached) set (w .6 .last .1 .1 .1 .1 .1 .1 .0) (c .before .before .loop-test .taken, there) room (w .6 .ensures .added) in
+          let room = w .6 .ensures .stored .room in
+          let set = w .6 .last .1 .1 .1 .0 in
+          let added = level-added (a .n .0) (a .darts) (now (a .table)) (s .pre .0) (loop .before .all-but .result) (but (a .dimension .0)) (loop .before .all-but .ensures) (l .d) (l .reached) set (w .6 .last .1 .1 .1 .1 .0) (c .before .before .loop-test .taken, there) room (w .6 .ensures .added) in
           (omega arith, rw (w .7) (gathered-add (a .n .0) (a .darts) (now (a .table)) (but (a .dimension .0)) test (has (l .reached)) (has set) (l .d) (l .inv .1) failed (c .before .before .loop-test .taken) added), rw (w .7, w .8) room)
       | inr w ↦ elim w [
         | inl x ↦ (omega arith, rw (x .3) (gathered-pass (a .n .0) (a .darts) (now (a .table)) (but (a .dimension .0)) test (has (l .reached)) (l .d) (l .inv .1) (λ e. absurd (true≢false (sym e ∙ sym (x .1 .ensures) ∙ x .2 .left)))), rw (x .3, x .4) (l .inv .2))

@@ -11,7 +11,7 @@ use Rattle.laws.proofs.Verdicts.{and-both, and-rest}
 use Rattle.answers.proofs.Rows.{rows-entry}
 use Rattle.orbits.specs.Choices.{uses}
 use Rattle.orbits.specs.Search.{has, Room}
-use Rattle.orbits.proofs.Sets.{none-has, none-room}
+use Rattle.orbits.proofs.Sets.{none-has, none-room, queue-empty}
 use Rattle.orbits.proofs.Decided.{none}
 use Rattle.orbits.specs.Explicit.{but}
 use Rattle.orbits.proofs.Explicit.{Present, level-ready, level-added}
@@ -71,7 +71,7 @@ orbit-requires c κs =
     let s = start o in
     let a = s .args in
     let l = o .loop in
-    (level-ready (a .n .0) (a .darts) (now (a .table)) (s .pre .0) (o .before .all-but .result) (but (a .dimension .0)) (o .before .all-but .ensures) (l .d) (l .reached) (l .queue) (told t .0) (l .inv .3) (counting o .closed), l .inv .3)
+    (level-ready (a .n .0) (a .darts) (now (a .table)) (s .pre .0) (o .before .all-but .result) (but (a .dimension .0)) (o .before .all-but .ensures) (l .d) (l .reached) (l .queue) (told t .0) (l .inv .3) (counting o .closed), queue-empty (l .inv .3))
 
 add-number : tie.Need-add-number Inv-loop μ-loop
 add-number c =
@@ -97,13 +97,13 @@ loop-again c =
     elim (c .if1 .came) [
       | inl w ↦
           let is = told (record { before = c .before; if1 = w .0 }) in
-          let set = w .4 .last .1 .1 .1 .1 .1 .0 in (
+          let set = w .4 .last .1 .1 .1 .0 in (
             omega arith,
             rw (w .7) (omega (arith, l .inv .1)),
             λ i is-but.
-                let added = level-added (a .n .0) N T (s .pre .0) (o .before .all-but .result) (but i) is-but (l .d) (l .reached) set (w .4 .last .1 .1 .1 .1 .1 .1 .0) (is .0) (w .4 .ensures .room) (w .4 .ensures .added) in
+                let added = level-added (a .n .0) N T (s .pre .0) (o .before .all-but .result) (but i) is-but (l .d) (l .reached) set (w .4 .last .1 .1 .1 .1 .0) (is .0) (w .4 .ensures .stored .room) (w .4 .ensures .added) in
                 rw (w .5, w .7) (counting-add (a .n .0) N T i (s .pre .0) (has (l .reached)) (l .d) (l .number) (l .inv .2 i is-but) (is .0) (is .1) (has set) added),
-            rw (w .5, w .6) (w .4 .ensures .room),
+            rw (w .5, w .6) (w .4 .ensures .stored .room),
           )
       | inr w ↦
           let reached : Present (a .n .0) N T (l .d) → has (l .reached) (l .d) ≡ true = λ p. not-false (has (l .reached) (l .d)) (and-rest (there .result) (not (has (l .reached) (l .d))) (there .ensures ∙ p .1) (w .0 .left)) in (
