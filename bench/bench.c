@@ -24,12 +24,15 @@ struct implementation {
     __typeof__(&plain_rebase) rebase;
     __typeof__(&plain_survivors) survivors;
     __typeof__(&plain_census) census;
+    __typeof__(&plain_check_base) check_base;
+    __typeof__(&plain_marks_of) marks_of;
+    __typeof__(&plain_row) row;
 };
 
 /* The jobs in the order of the struct, by the beginning of their names; the C has two ways to read by levels. */
 #define JOBS(p, by_levels)                                                                                             \
     p##check, p##add, p##unfold, p##read, by_levels, p##mark_cells, p##take, p##write, p##decimation, p##import,       \
-        p##export, p##regions, p##join, p##rebase, p##survivors, p##census
+        p##export, p##regions, p##join, p##rebase, p##survivors, p##census, p##check_base, p##marks_of, p##row
 
 static const struct implementation implementations[] = {
     {"library", JOBS(zg_, zg_read_by_levels)},
@@ -175,6 +178,28 @@ static void run_census(const struct implementation *by)
     refusals += by->census(PYRAMID, table, len, cells, ZG_CELLS, sums, ZG_SUMS).number;
 }
 
+static void run_base(const struct implementation *by)
+{
+    refusals += by->check_base(map.n, map.darts, map.rows, len).number;
+}
+
+/* Every level. */
+static void run_marks(const struct implementation *by)
+{
+    for (unsigned l = 0; l <= map.h; l++)
+        refusals += by->marks_of(map.n, map.darts, map.h, map.lambda, map.darts, map.delta, map.darts, (uint8_t)l, marks,
+                                 map.darts)
+                        .number;
+}
+
+/* Every involution of every level. */
+static void run_row(const struct implementation *by)
+{
+    for (unsigned l = 0; l <= map.h; l++)
+        for (unsigned i = 0; i <= map.n; i++)
+            refusals += by->row(map.n, map.darts, map.h, map.rows, len, top, len, (uint8_t)l, (uint8_t)i).refusal.number;
+}
+
 struct job {
     const char *name;
     void (*run)(const struct implementation *);
@@ -186,7 +211,8 @@ static const struct job jobs[] = {
     {"take", run_take},         {"write", run_write},         {"regions", run_regions},
     {"rebase", run_rebase},     {"survivors", run_survivors}, {"decimation", run_decimation},
     {"join", run_join},         {"census", run_census},       {"import", run_import},
-    {"export", run_export},
+    {"export", run_export},     {"base", run_base},           {"marks", run_marks},
+    {"row", run_row},
 };
 
 /* ---------------------------------------------------------------- what is lent */

@@ -321,8 +321,11 @@ zg_refusal plain_marks_of(uint8_t n, uint16_t darts, uint8_t h, const uint8_t *l
     unsigned unfit = first_unfit(n, darts, h, lambda, delta);
     if (unfit < darts)
         return RESULT(zg_refusal, 8, level, 0, unfit);
-    for (unsigned d = 0; d < darts; d++)
-        marks[d] = lambda[d] == level && level < h ? delta[d] : ZG_STAY;
+    uint8_t kernel = level < h ? level : ZG_STAY; /* of level h there is none, and no lambda is so large */
+    for (unsigned d = 0; d < darts; d++) {
+        uint8_t mark = delta[d]; /* read in any case, so that many are chosen at once */
+        marks[d] = lambda[d] == kernel ? mark : ZG_STAY;
+    }
     return RESULT(zg_refusal, 0);
 }
 
