@@ -8,13 +8,20 @@ Status: 0 accepted, 1 refused (diff: or the records differ), 2 a wrong call or f
 3 something can't be written. Of many files it is the highest.
 A file '-' is standard input, and behind -o standard output.";
 
+/// In a help the options of all commands stand behind a command's own, and before the help itself.
+const BEHIND: usize = 100;
+
 /// The whole call.
 pub fn command() -> Command {
     let forms = [
-        Arg::new("json").long("json").help("Print the answer as JSON"),
+        Arg::new("json")
+            .long("json")
+            .help("Print the answer as JSON")
+            .display_order(BEHIND),
         Arg::new("csv")
             .long("csv")
             .help("Print the answer as CSV: its last table")
+            .display_order(BEHIND + 1)
             .conflicts_with("json"),
     ];
     Command::new("zompelgors")
