@@ -1,6 +1,6 @@
 #!/usr/bin/env python3
 """Holds the pages of docs/ to the sources: public functions, theorems of one outcome, wrong programs, definitions and
-their lines, names and files of docs/DEMANDS.md, docs/CONTRACTS.md and docs/GLOSSARY.md, functions of the C interface in
+their lines, names and files of docs/DEMANDS.md, docs/CONTRACTS.md and docs/GLOSSARY.md, public laws that nothing cites, functions of the C interface in
 docs/JOBS.md and docs/BUDGETS.md, the formulas of bench/budget.py, headings that are cited, the pictures of docs/figures
 to what draws them, the table of docs/CRATES.md to crates.txt; and the C header to the crates: names of refusals, version, width.
 
@@ -19,7 +19,7 @@ FIGURES = ROOT / "docs" / "figures"
 NAMED_PAGES = ["docs/DEMANDS.md", "docs/CONTRACTS.md", "docs/GLOSSARY.md"]
 TOLD_PAGES = ["README.md", "docs/TOUR.md", "docs/JOBS.md", "docs/CRATES.md", "docs/SCOPE.md", "docs/INTEGRATING.md", "docs/BUDGETS.md", "docs/DECISIONS.md"]
 # of the language and the prover; f stands for any function
-LANGUAGE = {"requires", "Learnt", "returns", "loop-again", "f-requires", "f-one"}
+LANGUAGE = {"requires", "Learnt", "returns", "loop-holds", "loop-again", "f-requires", "f-one"}
 # a definition begins so; the other declarations that are public are theorems and fields
 DEFINITION = r"\s*(?:(?:abbrev|unfoldable) (?:pub )?|pub (?:data|record) )(\S+)"
 
@@ -274,6 +274,37 @@ def prose_differences():
                     yield f"{page}:{number} names {name}, which nothing declares"
 
 
+def laws(path):
+    """(line number, indent, name) of each law that a file makes public: no definition, no field of a record."""
+    lines = text(path).split("\n")
+    for number, line in enumerate(lines):
+        m = re.match(r"( *)pub ([^\s:{(]+) :", line)
+        around = [above for above in lines[:number] if above.strip() and not above.lstrip().startswith("--") and len(above) - len(above.lstrip()) < len(m[1])] if m else []
+        if m and not (around and " : Type" in around[-1]):
+            yield number, m[1], m[2]
+
+
+def is_used(path, number, indent, name):
+    """Does another law of the file use it? Its own clauses begin with it, at its indent."""
+    return any(
+        name in words(line) and not line.lstrip().startswith("--") and line.strip() != name and not line.startswith(f"{indent}{name} ")
+        for other, line in enumerate(text(path).split("\n"))
+        if other != number
+    )
+
+
+def law_differences():
+    """A law that is public is cited: by another source, by another law of its file, or by a page. Those of one outcome have their own test."""
+    cited = set().union(*(imports(p).values() for p in CRATES.rglob("*") if p.suffix in (".antt", ".rt")))
+    told = set(re.findall(r"`([^`\s]+)(?: \.[^`]*)?`", "".join((ROOT / page).read_text() for page in NAMED_PAGES + TOLD_PAGES)))
+    for path in sorted(CRATES.glob("*/proofs/*.antt")):
+        if path.parent.parent.name == "outcomes" and path.stem in ("Jobs", "Interface"):
+            continue
+        for number, indent, name in laws(path):
+            if (path, name) not in cited and name not in told and not is_used(path, number, indent, name):
+                yield f"{path.relative_to(ROOT)}:{number + 1}: nothing cites {name}"
+
+
 def glossary_differences():
     """Every file of crates/maps/specs has a word in docs/GLOSSARY.md; Lib only lists them."""
     named = {path for page, _, _, files in named_rows() if page == "docs/GLOSSARY.md" for path in files}
@@ -294,6 +325,10 @@ def edit_differences():
                 functions = set().union(*(declared(p) for p in (CRATES / edit.split("/")[0] / "src").glob("*.rt")))
                 if not edit.startswith("maps/") and not set(re.findall(r"`(\w+)`:", row[-1])) & functions:
                     yield f"{page}:{number}: refused at no function of the crate"
+                claims = frozenset().union(*(declared(p) for p in (CRATES / "maps" / "proofs").glob("*.antt")))
+                for name in re.findall(r"`([^`]+)`", row[-1]) if edit.startswith("maps/") else []:
+                    if not set(name.split(" .")) <= claims:
+                        yield f"{page}:{number}: crates/maps/proofs has no claim {name}"
     for name in sorted(edits ^ told):
         yield f"the pages and must-fail/ differ in {name}"
 
@@ -410,6 +445,7 @@ def differences():
     yield from name_differences()
     yield from contract_differences()
     yield from prose_differences()
+    yield from law_differences()
     yield from glossary_differences()
     yield from edit_differences()
     if (ROOT / "docs" / "DEFINITIONS.md").read_text() != definitions_page():

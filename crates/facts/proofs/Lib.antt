@@ -29,6 +29,7 @@ pub mod ExactJobs
 pub mod MarksJobs
 pub mod Splits
 pub mod SplitKernels
+pub mod SplitJobs
 pub mod Trails
 pub mod Turns
 pub mod TowerLinks

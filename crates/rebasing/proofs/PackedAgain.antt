@@ -14,16 +14,19 @@ use Rattle.maps.specs.Verdict.{accepted}
 use Rattle.maps.specs.Sizes.{number4}
 use Rattle.maps.specs.Mark.{stay}
 use Rattle.maps.specs.Table.{entry, each, absent}
-use Rattle.maps.specs.Folded.{On, survives, levelTable, ofParts}
+use Rattle.maps.specs.Folded.{On, survives, marks, level, ofParts}
+use Rattle.maps.specs.Cost.{reads}
 use Rattle.maps.specs.Pyramid.{Pyramid}
-use Rattle.maps.specs.CheckPyramid.{leftBehind, checkLent, checkLeaves}
+use Rattle.maps.specs.CheckPyramid.{checkLent}
 use Rattle.laws.proofs.Counting.{count-le}
 use Rattle.laws.proofs.Tables.{length-listed, getD-listed, in-table}
 use Rattle.facts.proofs.Checks.{pyramid-check}
+use Rattle.facts.proofs.Facts.{Facts, facts}
 use Rattle.facts.proofs.AcceptedJobs.{accepted-pyramid}
 use Rattle.maps.specs.NewBase.{rank, oldNumber, newDarts, newHeight, newΛ, newΔ, newBase}
-use Rattle.maps.specs.Rebase.{packed, rebaseSizes, rebaseLent, rebaseDarts, rebaseHeight, rebaseRows, rebaseLambda, rebaseDelta, rebaseOld, rebaseTable}
-use Rattle.rebasing.proofs.Renumbering.{Renumbered, renumbered-agree, renumbered-pyramid}
+use Rattle.maps.specs.Rebase.{packed, rebaseLent, rebaseDarts, rebaseHeight, rebaseRows, rebaseLambda, rebaseDelta, rebaseOld}
+use Rattle.rebasing.proofs.Renumbering.{Renumbered, renumbered-agree, renumbered-pyramid, alike}
+use Rattle.rebasing.proofs.FewerReads.{fewer-reads}
 use Rattle.rebasing.proofs.Tests.{Passed, passed}
 use Rattle.rebasing.proofs.StartingAgain.{rank-below, old-rank, again-renumbered, again-sizes}
 
@@ -55,6 +58,14 @@ pub record PackedAgain (n N h : ℕ) (rows lambda delta : List ℕ) (l N′ h′
   pub rising : (d : ℕ) → d < N′ → each old′ d ≡ oldNumber N (each lambda) l d
   -- no survivor of level l is left out: its rank is a new dart, whose old number is the survivor's
   pub every : (d : ℕ) → On N (each lambda) l d → (rank (each lambda) l d < N′) × (each old′ (rank (each lambda) l d) ≡ d)
+  -- level k of them is the old level l + k, under the new numbers
+  pub neighbour : (k i d : ℕ) → k ≤ h′ → i ≤ n → On N′ (each (take N′ lambda′)) k d
+      → each old′ (level (entry N′ (take (suc n * N′) rows′)) n N′ (marks h′ (each (take N′ lambda′)) (each (take N′ delta′))) k i d) ≡ level (entry N rows) n N (marks h (each lambda) (each delta)) (l + k) i (each old′ d)
+  -- demand 3, with reads counted in the new base
+  pub facts : (k : ℕ) → k ≤ h′ → Facts (entry N′ (take (suc n * N′) rows′)) n N′ h′ (each (take N′ lambda′)) (each (take N′ delta′)) k
+  -- a walk reads no more entries than the old walk of the same dart
+  pub no-more : (k i d : ℕ) → k ≤ h′ → i ≤ n → On N′ (each (take N′ lambda′)) k d
+      → reads (entry N′ (take (suc n * N′) rows′)) n N′ h′ (each (take N′ lambda′)) (each (take N′ delta′)) k i d ≤ reads (entry N rows) n N h (each lambda) (each delta) (l + k) i (each old′ d)
   -- lent again, in their new lengths, they are accepted
   pub accepted-again : (table′ : List ℕ) → length table′ ≡ suc n * N′ → checkLent (ofParts n N′ h′ (take (suc n * N′) rows′) (take N′ lambda′) (take N′ delta′)) table′ ≡ accepted
 
@@ -81,11 +92,6 @@ module _ (n N h : ℕ) (rows lambda delta table : List ℕ) (l : ℕ) (old : Lis
   -- what is lent is an accepted pyramid
   pub lent-pyramid : Pyramid a n N h Λ Δ
   lent-pyramid = accepted-pyramid (ofParts n N h rows lambda delta) table (found .checked)
-
-  -- accepted, the table holds level h, as after the check
-  pub again-table : rebaseTable (ofParts n N h rows lambda delta) table l old ≡ levelTable a n N h Λ Δ h
-  unfolding rebaseTable rebaseSizes checkLeaves leftBehind number4
-  again-table = rw (found .sized, eq-eqb (length old) N (found .old-long), found .checked)
 
   -- there are no more darts than before
   fewer-darts : D ≤ N
@@ -127,18 +133,21 @@ module _ (n N h : ℕ) (rows lambda delta table : List ℕ) (l : ℕ) (old : Lis
   all-there : (d : ℕ) → On N Λ l d → (rank Λ l d < D) × (each (packed (oldNumber N Λ l) D absent N) (rank Λ l d) ≡ d)
   all-there d o = let f = rank-below N Λ l d o in (f, packed-at (oldNumber N Λ l) D absent N fewer-darts (rank Λ l d) f ∙ old-rank N Λ l d o)
 
+  -- they are an accepted pyramid
+  front-pyramid : Pyramid (entry D R) n D H (each L) (each T)
+  front-pyramid = renumbered-pyramid a n N h Λ Δ lent-pyramid l (entry D R) D H (each L) (each T) (each (packed (oldNumber N Λ l) D absent N)) fronts
+
   -- and the check accepts them
   front-accepted : (table′ : List ℕ) → length table′ ≡ suc n * D → checkLent (ofParts n D H R L T) table′ ≡ accepted
   unfolding checkLent number4
   front-accepted table′ f =
-      let y = renumbered-pyramid a n N h Λ Δ lent-pyramid l (entry D R) D H (each L) (each T) (each (packed (oldNumber N Λ l) D absent N)) fronts in
       rw (
         again-sizes n N h Λ l (found .sized) (found .some),
         eq-eqb (length R) (suc n * D) (front-length values (suc n * D) absent (suc n * N) smaller),
         eq-eqb (length L) D (front-length (newΛ N Λ l) D stay N fewer-darts),
         eq-eqb (length T) D (front-length (newΔ N Λ Δ l) D stay N fewer-darts),
         eq-eqb (length table′) (suc n * D) f,
-        pyramid-check (entry D R) n D H (each L) (each T) (y .dimension) y,
+        pyramid-check (entry D R) n D H (each L) (each T) (front-pyramid .dimension) front-pyramid,
       )
 
   -- the job, where it does not refuse, leaves the new pyramid packed to the front
@@ -146,4 +155,17 @@ module _ (n N h : ℕ) (rows lambda delta table : List ℕ) (l : ℕ) (old : Lis
       (rebaseDarts (ofParts n N h rows lambda delta) table l old) (rebaseHeight (ofParts n N h rows lambda delta) table l old) (rebaseRows (ofParts n N h rows lambda delta) table l old)
       (rebaseLambda (ofParts n N h rows lambda delta) table l old) (rebaseDelta (ofParts n N h rows lambda delta) table l old) (rebaseOld (ofParts n N h rows lambda delta) table l old)
   unfolding rebaseDarts rebaseHeight rebaseRows rebaseLambda rebaseDelta rebaseOld
-  packed-again = rw e (record { some = found .some; few = fewer-darts; renumbered = fronts; as-many = refl; rising = λ d ld. packed-at (oldNumber N Λ l) D absent N fewer-darts d ld; every = all-there; accepted-again = front-accepted })
+  packed-again =
+      rw e
+      (record {
+        some = found .some;
+        few = fewer-darts;
+        renumbered = fronts;
+        as-many = refl;
+        rising = λ d ld. packed-at (oldNumber N Λ l) D absent N fewer-darts d ld;
+        every = all-there;
+        neighbour = λ k i d f li o. alike a n N h Λ Δ lent-pyramid l (entry D R) D H (each L) (each T) (each (packed (oldNumber N Λ l) D absent N)) fronts k f .neighbour i d li o;
+        facts = λ k f. facts (entry D R) n D H (each L) (each T) front-pyramid k f;
+        no-more = λ k i d f li o. fewer-reads a n N h Λ Δ lent-pyramid l (entry D R) D H (each L) (each T) (each (packed (oldNumber N Λ l) D absent N)) fronts k f i d li o;
+        accepted-again = front-accepted;
+      })

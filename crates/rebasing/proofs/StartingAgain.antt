@@ -2,7 +2,6 @@
 use mathlib.Core.Path.{_≡_, refl, sym, ap, _∙_}
 use mathlib.Core.Bool.{Bool, true, false, not}
 use Prim.Native.Nat.{ℕ, suc, _+_, _-_, _*_, _≤_, _<_}
-use native.Mathlib.Nat.{mul-le-mul-left}
 use native.Mathlib.Omega.{arith}
 use lib.Dec.{ltb}
 use borrow.Author.Tests.{ltb-true, ltb-false, lt-ltb, le-ltb, le-leb, not-true, not-false}
@@ -12,12 +11,10 @@ use Rattle.maps.specs.Map.{Involutions}
 use Rattle.maps.specs.Folded.{On, gone, survives, survivors, removedBelow, marks, level}
 use Rattle.maps.specs.Cost.{reads, cost}
 use Rattle.maps.specs.Pyramid.{Pyramid}
-use Rattle.maps.specs.Check.{checkPyramid}
 use Rattle.maps.specs.Sizes.{number1, number2, number3, sizes}
 use Rattle.laws.proofs.Counting.{count-same, count-le}
 use Rattle.facts.proofs.Levels.{level-valid}
 use Rattle.laws.proofs.Sizes.{sizes-sized}
-use Rattle.facts.proofs.Checks.{pyramid-check}
 use Rattle.facts.proofs.Facts.{Facts, facts}
 use Rattle.maps.specs.NewBase.{rank, oldNumber, newDarts, newHeight, newΛ, newΔ, newBase}
 use Rattle.rebasing.proofs.Numbering.{sum-at-most, count-both, count-passes, kth-is, kth-rank, kth-rises, sum-renumbered, count-renumbered}
@@ -56,12 +53,6 @@ module _ (N : ℕ) (Λ : ℕ → ℕ) (l : ℕ) where
   -- the other way
   pub old-rises : (j k : ℕ) → j < k → k < newDarts N Λ l → oldNumber N Λ l j < oldNumber N Λ l k
   old-rises j k f g = kth-rises (survives Λ l) N j k f g
-
-  -- a survivor's new place in the rows is not behind its old one, in any row: what packing in place needs
-  pub packs-behind : (i d : ℕ) → i * newDarts N Λ l + rank Λ l d ≤ i * N + d
-  packs-behind i d =
-      let x : i * newDarts N Λ l ≤ i * N = mul-le-mul-left i (count-le (survives Λ l) N) in
-      omega (arith, count-le (survives Λ l) d)
 
   -- a level above l has the survivors that it had
   pub survivors-kept : (k : ℕ) → survivors (newDarts N Λ l) (newΛ N Λ l) k ≡ survivors N Λ (l + k)
@@ -206,10 +197,6 @@ module _ (a : Involutions) (n N h : ℕ) (Λ Δ : ℕ → ℕ) (y : Pyramid a n 
     no-more = again-reads;
     no-dearer = again-cost;
   }
-
-  -- the pyramid check accepts it
-  pub again-checked : checkPyramid a′ n N′ h′ Λ′ Δ′ ≡ accepted
-  again-checked = pyramid-check a′ n N′ h′ Λ′ Δ′ (y .dimension) again-pyramid
 
 -- its sizes are not refused, where level l has a dart
 pub again-sizes : (n N h : ℕ) (Λ : ℕ → ℕ) (l : ℕ) → sizes n N h ≡ accepted → 1 ≤ newDarts N Λ l → sizes n (newDarts N Λ l) (newHeight h l) ≡ accepted

@@ -1,14 +1,18 @@
 -- Starting again from l and then from k is starting again from l + k. Assumes nothing.
-use mathlib.Core.Path.{_≡_, sym, ap, _∙_}
+use mathlib.Core.Path.{_≡_, refl, sym, ap, _∙_}
 use mathlib.Core.Bool.{Bool, false, not}
 use mathlib.Core.List.{List}
 use Prim.Native.Nat.{ℕ, suc, _+_, _*_, _/_, _%_, _≤_, _<_}
 use native.Mathlib.Nat.{mul-le-mul-left}
 use native.Mathlib.Omega.{arith}
-use lib.ListN.{take}
+use lib.ListN.{length, take}
 use lib.Dec.{ltb}
-use borrow.Author.Tests.{ltb-true, lt-ltb, not-false}
+use borrow.Author.Tests.{ltb-true, lt-ltb, eq-eqb, not-false}
 use Rattle.maps.specs.Verdict.{accepted}
+use Rattle.maps.specs.Sizes.{number4, hasLength}
+use Rattle.maps.specs.CheckPyramid.{checkLent}
+use Rattle.facts.proofs.ExactJobs.{check-accepts, accepted-check}
+use Rattle.answers.specs.Lent.{lentOf}
 use Rattle.maps.specs.Count.{count}
 use Rattle.maps.specs.Map.{Involutions}
 use Rattle.maps.specs.Mark.{stay}
@@ -21,9 +25,9 @@ use Rattle.laws.proofs.Counting.{count-same, count-le}
 use Rattle.laws.proofs.Tables.{listed-of, listed-same, place}
 use Rattle.rebasing.proofs.Numbering.{count-rises, kth-is, rank-one, count-renumbered}
 use Rattle.rebasing.proofs.Renumbering.{Renumbered, ltb-raised, on-old, alike}
-use Rattle.rebasing.proofs.Tests.{passed}
+use Rattle.rebasing.proofs.Tests.{passed, all-passed}
 use Rattle.rebasing.proofs.StartingAgain.{old-on, rank-below, rank-old, old-rank}
-use Rattle.rebasing.proofs.PackedAgain.{packed-again, lent-pyramid, front-at, front-length, packed-at}
+use Rattle.rebasing.proofs.PackedAgain.{PackedAgain, packed-again, lent-pyramid, front-at, front-length, packed-at}
 
 -- the k-th number that passes is the same of a longer row
 kth-longer : (p : ℕ → Bool) (m M k : ℕ) → m ≤ M → k < count p m → kth p m k ≡ kth p M k
@@ -169,7 +173,7 @@ module _ (n N h : ℕ) (rows lambda delta : List ℕ) (y : Pyramid (entry N rows
         old = same-old;
       })
 
--- Starting again from l, and then with the fronts from k, leaves what starting again from l + k leaves.
+-- Where starting again from l, and then with the fronts from k, is accepted, so is starting again from l + k, and leaves the same.
 module _ (n N h : ℕ) (rows lambda delta table : List ℕ) (l : ℕ) (old : List ℕ) (e : rebaseLent (ofParts n N h rows lambda delta) table l old ≡ accepted) where
   abbrev N₁ : ℕ
   N₁ = rebaseDarts (ofParts n N h rows lambda delta) table l old
@@ -186,11 +190,47 @@ module _ (n N h : ℕ) (rows lambda delta table : List ℕ) (l : ℕ) (old : Lis
   abbrev delta₁ : List ℕ
   delta₁ = take N₁ (rebaseDelta (ofParts n N h rows lambda delta) table l old)
 
-  pub again-twice : (table₂ : List ℕ) (k : ℕ) (old₂ : List ℕ) → rebaseLent (ofParts n N₁ h₁ rows₁ lambda₁ delta₁) table₂ k old₂ ≡ accepted → (table₃ old₃ : List ℕ) → rebaseLent (ofParts n N h rows lambda delta) table₃ (l + k) old₃ ≡ accepted
-      → Twice n (rebaseDarts (ofParts n N₁ h₁ rows₁ lambda₁ delta₁) table₂ k old₂) (rebaseHeight (ofParts n N₁ h₁ rows₁ lambda₁ delta₁) table₂ k old₂) (rebaseDarts (ofParts n N h rows lambda delta) table₃ (l + k) old₃) (rebaseHeight (ofParts n N h rows lambda delta) table₃ (l + k) old₃)
-      (rebaseRows (ofParts n N₁ h₁ rows₁ lambda₁ delta₁) table₂ k old₂) (rebaseLambda (ofParts n N₁ h₁ rows₁ lambda₁ delta₁) table₂ k old₂) (rebaseDelta (ofParts n N₁ h₁ rows₁ lambda₁ delta₁) table₂ k old₂)
-      (rebaseRows (ofParts n N h rows lambda delta) table₃ (l + k) old₃) (rebaseLambda (ofParts n N h rows lambda delta) table₃ (l + k) old₃) (rebaseDelta (ofParts n N h rows lambda delta) table₃ (l + k) old₃)
-      (rebaseOld (ofParts n N h rows lambda delta) table l old) (rebaseOld (ofParts n N₁ h₁ rows₁ lambda₁ delta₁) table₂ k old₂) (rebaseOld (ofParts n N h rows lambda delta) table₃ (l + k) old₃)
-  again-twice table₂ k old₂ e₂ table₃ old₃ e₃ =
-      let p = packed-again n N h rows lambda delta table l old e in
-      twice n N h rows lambda delta (lent-pyramid n N h rows lambda delta table l old e) l N₁ h₁ rows₁ lambda₁ delta₁ (rebaseOld (ofParts n N h rows lambda delta) table l old) (p .renumbered) (p .as-many) (p .rising) table₂ k old₂ e₂ table₃ old₃ e₃
+  abbrev old₁ : List ℕ
+  old₁ = rebaseOld (ofParts n N h rows lambda delta) table l old
+
+  packed₁ : PackedAgain n N h rows lambda delta l N₁ h₁ (rebaseRows (ofParts n N h rows lambda delta) table l old) (rebaseLambda (ofParts n N h rows lambda delta) table l old) (rebaseDelta (ofParts n N h rows lambda delta) table l old) old₁
+  packed₁ = packed-again n N h rows lambda delta table l old e
+
+  lent : Pyramid (entry N rows) n N h (each lambda) (each delta)
+  lent = lent-pyramid n N h rows lambda delta table l old e
+
+  module _ (table₂ : List ℕ) (k : ℕ) (old₂ : List ℕ) (e₂ : rebaseLent (ofParts n N₁ h₁ rows₁ lambda₁ delta₁) table₂ k old₂ ≡ accepted)
+      (table₃ old₃ : List ℕ) (long : length table₃ ≡ suc n * N) (old-long : length old₃ ≡ N) where
+    -- the check looks at the table's length alone
+    checked-at-once : checkLent (ofParts n N h rows lambda delta) table₃ ≡ accepted
+    checked-at-once =
+        let q = check-accepts (ofParts n N h rows lambda delta) table (passed n N h rows lambda delta table l old e .checked) in
+        accepted-check (ofParts n N h rows lambda delta) table₃
+        (record {
+          dimension = q .dimension;
+          darts = q .darts;
+          height = q .height;
+          rows-length = q .rows-length;
+          lambda-length = q .lambda-length;
+          delta-length = q .delta-length;
+          table-length = long;
+          pyramid = q .pyramid;
+        })
+
+    sized-at-once : lentOf n N h (hasLength old₃ N) ≡ accepted
+    unfolding number4
+    sized-at-once = rw (passed n N h rows lambda delta table l old e .sized, eq-eqb (length old₃) N old-long)
+
+    -- starting again from l + k at once is accepted
+    pub at-once : rebaseLent (ofParts n N h rows lambda delta) table₃ (l + k) old₃ ≡ accepted
+    at-once =
+        let f = passed n N₁ h₁ rows₁ lambda₁ delta₁ table₂ k old₂ e₂ in
+        let same = darts-twice (entry N rows) n N h (each lambda) (each delta) lent l (entry N₁ rows₁) N₁ h₁ (each lambda₁) (each delta₁) (each old₁) (packed₁ .renumbered) (packed₁ .as-many) (packed₁ .rising) k in
+        sym (all-passed n N h rows lambda delta table₃ (l + k) old₃ (sym sized-at-once) refl (sym checked-at-once) (omega (arith, packed₁ .renumbered .height, f .low)) (λ z. omega (arith, same, f .some, z)) .0)
+
+    -- and leaves the same
+    pub again-twice : Twice n (rebaseDarts (ofParts n N₁ h₁ rows₁ lambda₁ delta₁) table₂ k old₂) (rebaseHeight (ofParts n N₁ h₁ rows₁ lambda₁ delta₁) table₂ k old₂) (rebaseDarts (ofParts n N h rows lambda delta) table₃ (l + k) old₃) (rebaseHeight (ofParts n N h rows lambda delta) table₃ (l + k) old₃)
+        (rebaseRows (ofParts n N₁ h₁ rows₁ lambda₁ delta₁) table₂ k old₂) (rebaseLambda (ofParts n N₁ h₁ rows₁ lambda₁ delta₁) table₂ k old₂) (rebaseDelta (ofParts n N₁ h₁ rows₁ lambda₁ delta₁) table₂ k old₂)
+        (rebaseRows (ofParts n N h rows lambda delta) table₃ (l + k) old₃) (rebaseLambda (ofParts n N h rows lambda delta) table₃ (l + k) old₃) (rebaseDelta (ofParts n N h rows lambda delta) table₃ (l + k) old₃)
+        old₁ (rebaseOld (ofParts n N₁ h₁ rows₁ lambda₁ delta₁) table₂ k old₂) (rebaseOld (ofParts n N h rows lambda delta) table₃ (l + k) old₃)
+    again-twice = twice n N h rows lambda delta lent l N₁ h₁ rows₁ lambda₁ delta₁ old₁ (packed₁ .renumbered) (packed₁ .as-many) (packed₁ .rising) table₂ k old₂ e₂ table₃ old₃ at-once
