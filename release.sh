@@ -191,6 +191,11 @@ gate_seen() {
         echo "no gate seen"
     fi
 }
+# command_origin: of bin/zompelgors.
+command_origin() {
+    [ -f "$tree/bin/zompelgors" ] || { echo "none" && return; }
+    echo "bin/zompelgors, by $(first rustc --version), over the libraries; it isn't proved"
+}
 provenance() {
     local changes origin
     changes=$(git status --porcelain | wc -l)
@@ -206,7 +211,7 @@ toolchain   $(command -v rt >/dev/null && rt version || echo "not here")
 libraries   $origin
 compiler    $(first "$CC" --version), for lib/$shared alone
 linker      $(first "$CC" -Wl,--version)
-command     $([ -f "$tree/bin/zompelgors" ] && first rustc --version || echo "none"), bin/zompelgors over the libraries; it isn't proved
+command     $(command_origin)
 gate        $(gate_seen)
 
 The gate proves every crate from nothing, tries each wrong program and runs the programs. Two runs of release.sh on one
