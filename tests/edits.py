@@ -19,7 +19,7 @@ CRATES = ROOT / "crates"
 LOGS = ROOT / "target" / "must-fail"
 PAGES = [ROOT / "docs" / "CONTRACTS.md", ROOT / "docs" / "DEMANDS.md"]
 # of a name that an earlier one made fail, and of a position that the code has no more
-FOLLOWS = re.compile(r"was not admitted|can be named from here|has no field|has no `Need|not in scope|is not defined|cannot be found")
+FOLLOWS = re.compile(r"was not admitted|can be named from here|has no field|has no `Need|not in scope|is not defined|cannot be found|where one has `Rattle·\S*\.Lts\.")
 # what small maps are held to, by computation
 CLAIMS = {"small-maps", "small-links", "small-factors", "small-joins", "small-contractions", "small-record", "small-partner", "small-jobs", "small-names", "small-relations", "star-again"}
 FEW = 4

@@ -29,11 +29,11 @@ use Rattle.climbing.specs.Climb.{Base, climbsTo, climbToLeaves}
 -- two maps that agree on the darts of one
 module _ (a b : Involutions) (n N : ℕ) (p : ℕ → Bool) (same : (j d : ℕ) → j ≤ n → There N p d → a j d ≡ b j d) (v : Valid a n (There N p)) (i : ℕ) where
   -- have the same cells there
-  to-cell : (x y : ℕ) → There N p x → Cell a n i x y → Cell b n i x y × There N p y
+  pub to-cell : (x y : ℕ) → There N p x → Cell a n i x y → Cell b n i x y × There N p y
   to-cell x _ h itself = (itself, h)
   to-cell x _ h (onward d j c lj ne) = let r = to-cell x d h c in (rw (same j d lj (r .1)) (onward d j (r .0) lj ne), v .inside j d lj (r .1))
 
-  from-cell : (x y : ℕ) → There N p x → Cell b n i x y → Cell a n i x y × There N p y
+  pub from-cell : (x y : ℕ) → There N p x → Cell b n i x y → Cell a n i x y × There N p y
   from-cell x _ h itself = (itself, h)
   from-cell x _ h (onward d j c lj ne) =
       let r = from-cell x d h c in

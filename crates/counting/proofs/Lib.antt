@@ -4,5 +4,6 @@ pub mod Alternating
 pub mod Whole
 pub mod OneCensus
 pub mod Survivors
+pub mod Counted
 pub mod Putting
 pub mod Small
