@@ -36,7 +36,7 @@ class Number(enum.IntEnum):
 TEXTS = (
     "accepted",
     "the dimension is not 1 to 4, or not 2 for a combinatorial map",
-    "the number of darts is not 1 to 4096, or 1 to 2048 of a combinatorial map",
+    "the number of darts is not 1 to 4096 (of a combinatorial map 2048), or a new base has none",
     "the height is above 32",
     "a length is not the one due",
     "an entry names no dart that is there",
@@ -45,7 +45,7 @@ TEXTS = (
     "a mark is not allowed",
     "a kernel is not made of whole cells",
     "a cell is not removable or not contractible",
-    "the level asked is above the height",
+    "the level asked is above the height, or too near it for a decimation or a join",
     "the dart asked is not on the level",
     "the involution or dimension asked is too large",
     "a walk meets a removed or contracted dart that it cannot pass",

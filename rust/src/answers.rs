@@ -78,7 +78,7 @@ macro_rules! numbers {
 numbers! {
     0 Accepted "accepted",
     1 Dimension "the dimension is not 1 to 4, or not 2 for a combinatorial map",
-    2 Darts "the number of darts is not 1 to 4096, or 1 to 2048 of a combinatorial map",
+    2 Darts "the number of darts is not 1 to 4096 (of a combinatorial map 2048), or a new base has none",
     3 Height "the height is above 32",
     4 Length "a length is not the one due",
     5 Strays "an entry names no dart that is there",
@@ -87,7 +87,7 @@ numbers! {
     8 Marks "a mark is not allowed",
     9 NotWhole "a kernel is not made of whole cells",
     10 NotRemovable "a cell is not removable or not contractible",
-    11 NoLevel "the level asked is above the height",
+    11 NoLevel "the level asked is above the height, or too near it for a decimation or a join",
     12 NoDart "the dart asked is not on the level",
     13 NoInvolution "the involution or dimension asked is too large",
     14 NoPass "a walk meets a removed or contracted dart that it cannot pass",

@@ -39,7 +39,7 @@ fn refusals() {
     let refusal = names(&corners(), 3).unwrap_err();
     assert_eq!(
         refusal.to_string(),
-        "refused 11 3 0 0: the level asked is above the height"
+        "refused 11 3 0 0: the level asked is above the height, or too near it for a decimation or a join"
     );
     let contracted = Pyramid {
         h: Level(1),
