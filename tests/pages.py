@@ -17,7 +17,7 @@ ROOT = Path(__file__).resolve().parent.parent
 CRATES = ROOT / "crates"
 FIGURES = ROOT / "docs" / "figures"
 NAMED_PAGES = ["docs/DEMANDS.md", "docs/CONTRACTS.md", "docs/GLOSSARY.md"]
-TOLD_PAGES = ["README.md", "docs/TOUR.md", "docs/JOBS.md", "docs/CRATES.md", "docs/SCOPE.md", "docs/INTEGRATING.md", "docs/BUDGETS.md", "docs/DECISIONS.md"]
+TOLD_PAGES = ["README.md", "docs/TOUR.md", "docs/JOBS.md", "docs/CRATES.md", "docs/SCOPE.md", "docs/INTEGRATING.md", "docs/BUDGETS.md", "docs/DECISIONS.md", "docs/TRUST.md"]
 # of the language and the prover; f stands for any function
 LANGUAGE = {"requires", "Learnt", "returns", "loop-holds", "loop-again", "f-requires", "f-one"}
 # a definition begins so; the other declarations that are public are theorems and fields

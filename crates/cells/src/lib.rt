@@ -1,4 +1,4 @@
-// Cells of an explicit level: mark the removable ones of one dimension. Assumes nothing.
+// Cells of an explicit level: mark those of one dimension that can go. Assumes nothing.
 mod mark;
 
 pub use mark::mark_cells;

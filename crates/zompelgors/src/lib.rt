@@ -648,7 +648,7 @@ pub extern "C" fn zg_survivors(
     counted(rows::survivors(darts, Level(h), lambda, Level(level), words))
 }
 
-// Marks the removable cells of one dimension on an explicit level.
+// Marks cells of one dimension on an explicit level: those that are removable and fall into two parts, but for one of each piece that would vanish.
 #[no_mangle]
 pub extern "C" fn zg_mark_cells(
     n: u8,
