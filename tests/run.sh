@@ -448,6 +448,8 @@ part_pages() {
     ! can "sample records" python3 || report "sample records" "$BUILD/samples.made" made_anew
     ! can "pages of docs/ against the sources" python3 ||
         report "pages of docs/ against the sources" "$BUILD/pages.txt" python3 tests/pages.py
+    ! can "wrong programs against the gate's logs" python3 ||
+        report "wrong programs against the gate's logs" "$BUILD/edits.txt" python3 tests/edits.py
 }
 
 # processor: of what times wrote, the seconds of processor time of all commands, in user mode and for the system.
