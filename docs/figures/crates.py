@@ -176,7 +176,7 @@ def pictures():
     bottom = height - MARGIN - 50 - HIGH / 2
     at = lambda item: (middle[item] - left, bottom - STEP * (floor[item] if isinstance(item, str) else item[1]))
     for upper, lower in sorted({pair for line in lines for pair in zip(line, line[1:])}, key=str):
-        join(picture, at(upper), at(lower), isinstance(upper, str), isinstance(lower, str))
+        join(picture, at(upper), at(lower), isinstance(lower, str))
     for name in listed():
         x, y = at(name)
         picture.box(x - wide(name) / 2, y - HIGH / 2, wide(name), HIGH, kind(name))
@@ -187,12 +187,13 @@ def pictures():
     yield picture
 
 
-def join(picture, upper, lower, from_crate, to_crate):
-    """A line from floor to floor, straight up and down where it meets a crate or a place between."""
+def join(picture, upper, lower, to_crate):
+    """A line from floor to floor. It bends between the floors alone, and goes straight down past the crates of one."""
     (x, y), (u, v) = upper, lower
-    y, v = y + (HIGH / 2 if from_crate else 0), v - (HIGH / 2 if to_crate else 0)
+    y, v = y + HIGH / 2, v - HIGH / 2
     half = (v - y) / 2
-    picture.path(f"M{x:.0f},{y:.0f} C{x:.0f},{y + half:.0f} {u:.0f},{v - half:.0f} {u:.0f},{v:.0f}", "soft", 1.5)
+    straight = "" if to_crate else f" V{v + HIGH:.0f}"
+    picture.path(f"M{x:.0f},{y:.0f} C{x:.0f},{y + half:.0f} {u:.0f},{v - half:.0f} {u:.0f},{v:.0f}{straight}", "soft", 1.5)
 
 
 # ---- the table
