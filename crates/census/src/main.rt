@@ -7,7 +7,7 @@ use answers::Level;
 use answers::MOST_ENTRIES;
 use answers::MOST_ROWS;
 use answers::ROOM;
-use records::Taken;
+use taking::Taken;
 ghost use mathlib.Core.Path.{_≡_};
 ghost use Prim.Native.Nat.{_≤_};
 ghost use lib.IntN.{natAbs};
@@ -99,13 +99,13 @@ fn main() {
         &mut table,
     ) {
         Taken::Refused(r) => programs::refuse(1, r),
-        Taken::Record(n, h, darts) => {
-            let width = darts as usize;
-            let size = answers::entries(n, darts);
+        Taken::Record(sizes) => {
+            let width = sizes.darts as usize;
+            let size = answers::entries(sizes.n, sizes.darts);
             print_census(
-                n,
-                darts,
-                h,
+                sizes.n,
+                sizes.darts,
+                sizes.h,
                 &rows[..size],
                 &lambda[..width],
                 &delta[..width],

@@ -9,13 +9,13 @@ use borrow.Author.Tests.{le-leb}
 use Rattle.maps.specs.Verdict.{accepted, _then_}
 use Rattle.maps.specs.Sizes.{number4}
 use Rattle.maps.specs.Record.{wide, either, oneByte, recordDimension, recordHeight, recordDarts, formed, recordRows, recordLambda, recordDelta, recordLent, takeLent, takeRows, takeLambda, takeDelta}
+use Rattle.maps.specs.Folded.{ofParts}
 use Rattle.maps.specs.Write.{writeLength, writeLeaves}
 use Rattle.maps.specs.Convert.{newRecord, convertLent, convertLength, convertLeaves}
 use Rattle.laws.proofs.Verdicts.{then-accepted}
-use Rattle.records.specs.Answers.{saying}
-use Rattle.records.specs.Parts.{Below}
-use Rattle.records.proofs.Again.{again, first-tag}
-use Rattle.taking.specs.Answers.{taken}
+use Rattle.taking.specs.Parts.{Below}
+use Rattle.taking.proofs.Again.{again, first-tag}
+use Rattle.taking.specs.Answers.{saying, taken}
 use Rattle.taking.proofs.Joined.{taken-both}
 use Rattle.writing.proofs.TakenBack.{written-taken}
 use Rattle.converting.specs.Answers.{converted}
@@ -41,7 +41,7 @@ module _ (old rows lambda delta table new : List ℕ) (e : convertLent old rows 
     converted-taken =
         let t = then-accepted (takeLent old either rows lambda delta table) (number4 (leb (length (newRecord old rows lambda delta table new)) (length new))) e .0 in
         let same = lent-is old rows lambda delta table new (taken-both old either rows lambda delta table t .0) in
-        let back = written-taken (recordDimension old) (recordDarts old) (recordHeight old) (recordRows old either) (recordLambda old either) (recordDelta old either) _ new (sym same ∙ e) lentRows lentLambda lentDelta lentTable rows-lent lambda-lent delta-lent table-lent in
+        let back = written-taken (ofParts (recordDimension old) (recordDarts old) (recordHeight old) (recordRows old either) (recordLambda old either) (recordDelta old either)) _ new (sym same ∙ e) lentRows lentLambda lentDelta lentTable rows-lent lambda-lent delta-lent table-lent in
         record { answer = rw (← same) at (back .answer); rows-same = rw (← same) at (back .rows-back); lambda-same = rw (← same) at (back .lambda-back); delta-same = rw (← same) at (back .delta-back) }
 
 -- a record that taking takes, with rows of two bytes an entry

@@ -1,48 +1,23 @@
-// Convert an old record, with rows of either kind: it is unpacked, its pyramid checked, and the new record written, in one job. Assumes nothing: any bytes at all are answered.
-use answers::Dim;
-use answers::Level;
-use records::Allowed;
-use records::Taken;
+// Convert an old record, with rows of either kind: it is taken, which checks its pyramid, and the new record written, in one job. Assumes nothing: any bytes at all are answered.
+use answers::Sizes;
+use taking::Taken;
 use writing::Written;
 ghost use mathlib.Core.Path.{_≡_};
-ghost use mathlib.Core.List.{_++_};
-ghost use Prim.Native.Nat.{suc, _*_, _≤_};
-ghost use lib.ListN.{length, take as first, drop};
 ghost use Rattle.maps.specs.Record.{either, takeRows, takeLambda, takeDelta, takeTable};
-ghost use Rattle.maps.specs.Write.{writeTable, writeLeaves};
 ghost use Rattle.maps.specs.Convert.{convertLeaves};
-ghost use Rattle.maps.specs.Folded.{ofParts};
-ghost use Rattle.writing.specs.Answers.{writtenOf, writing as writingOf};
+ghost use Rattle.taking.specs.Front.{front};
+ghost use Rattle.writing.specs.Answers.{writtenOf, Checked, putting, putLeaves};
 ghost use Rattle.converting.specs.Answers.{converted};
 
-// The pyramid that stands at the front of slices, checked and written.
-fn write_front(
-    n: Dim,
-    darts: u16,
-    h: Level,
-    rows: &[u16],
-    lambda: &[u8],
-    delta: &[u8],
-    table: &mut [u16],
-    new: &mut [u8],
-) -> Written
-    requires { ⌜ (n .0 ≤ 4) × (darts ≤ 4096) × (suc (n .0) * darts ≤ length (now rows)) × (darts ≤ length (now lambda)) × (darts ≤ length (now delta)) × (suc (n .0) * darts ≤ length (now table)) ⌝ }
-    ensures answer { λ r. ⌜ writtenOf r ≡ writingOf (n .0) darts (h .0) (first (suc (n .0) * darts) (now (rows .entry))) (first darts (now (lambda .entry))) (first darts (now (delta .entry))) (first (suc (n .0) * darts) (now (table .entry))) (now (new .entry)) ⌝ }
-    ensures table_left { λ _. ⌜ now (table .exit) ≡ writeTable (ofParts (n .0) darts (h .0) (first (suc (n .0) * darts) (now (rows .entry))) (first darts (now (lambda .entry))) (first darts (now (delta .entry)))) (first (suc (n .0) * darts) (now (table .entry))) (now (new .entry)) ++ drop (suc (n .0) * darts) (now (table .entry)) ⌝ }
-    ensures new_left { λ _. ⌜ now (new .exit) ≡ writeLeaves (ofParts (n .0) darts (h .0) (first (suc (n .0) * darts) (now (rows .entry))) (first darts (now (lambda .entry))) (first darts (now (delta .entry)))) (first (suc (n .0) * darts) (now (table .entry))) (now (new .entry)) ⌝ }
+// The record of an accepted pyramid that stands at the front of slices.
+fn write_front(sizes: Sizes, rows: &[u16], lambda: &[u8], delta: &[u8], new: &mut [u8]) -> Written
+    requires { ⌜ Checked (front sizes rows lambda delta) ⌝ }
+    ensures answer { λ r. ⌜ writtenOf r ≡ putting (front sizes (rows .entry) (lambda .entry) (delta .entry)) (now (new .entry)) ⌝ }
+    ensures new_left { λ _. ⌜ now (new .exit) ≡ putLeaves (front sizes (rows .entry) (lambda .entry) (delta .entry)) (now (new .entry)) ⌝ }
 {
-    let width = darts as usize;
-    let size = answers::entries(n, darts);
-    writing::write(
-        n,
-        darts,
-        h,
-        &rows[..size],
-        &lambda[..width],
-        &delta[..width],
-        &mut table[..size],
-        new,
-    )
+    let width = sizes.darts as usize;
+    let size = answers::entries(sizes.n, sizes.darts);
+    writing::write_accepted(sizes, &rows[..size], &lambda[..width], &delta[..width], new)
 }
 
 // Convert an old record. Rows, Λ, Δ and the table are left as taking leaves them; nothing of the buffer is written before the pyramid is accepted.
@@ -61,8 +36,8 @@ pub fn convert(
     ensures table_left { λ _. ⌜ now (table .exit) ≡ takeTable (now (old .entry)) either (now (rows .entry)) (now (lambda .entry)) (now (delta .entry)) (now (table .entry)) ⌝ }
     ensures new_left { λ _. ⌜ now (new .exit) ≡ convertLeaves (now (old .entry)) (now (rows .entry)) (now (lambda .entry)) (now (delta .entry)) (now (table .entry)) (now (new .entry)) ⌝ }
 {
-    match records::unpack(old, Allowed::Either, rows, lambda, delta, table) {
+    match taking::take_old(old, rows, lambda, delta, table) {
         Taken::Refused(r) => Written::Refused(r),
-        Taken::Record(n, h, darts) => write_front(n, darts, h, rows, lambda, delta, table, new),
+        Taken::Record(sizes) => write_front(sizes, rows, lambda, delta, new),
     }
 }

@@ -1,12 +1,12 @@
 // Takes a record from standard input, unfolds each level and prints: n, N, h; then for each level its number, survivors, total count, and since which level all its links stand.
 // It keeps 156,160 bytes: the input (65,536), rows and a table (40,960 each), Λ and Δ (4,096 each) and survivor words (512). Assumes the contracts of read and write.
-use answers::Dim;
+use answers::AtLevel;
 use answers::Level;
 use answers::MOST_ENTRIES;
 use answers::ROOM;
 use answers::Sizes;
 use reading::Unfolding;
-use records::Taken;
+use taking::Taken;
 
 // Number, survivors, total count, and since which level all links stand.
 fn level_line(level: Level, survivors: u32, all: Unfolding) {
@@ -19,14 +19,15 @@ fn level_line(level: Level, survivors: u32, all: Unfolding) {
 
 // One level's line; in an accepted pyramid neither job refuses it.
 fn one_level(
-    sizes: Sizes,
+    at: AtLevel,
     rows: &[u16],
     lambda: &[u8],
     delta: &[u8],
-    level: Level,
     table: &mut [u16],
     words: &mut [u64; 64],
 ) {
+    let sizes = at.sizes;
+    let level = at.level;
     match rows::survivors(sizes.darts, sizes.h, lambda, level, words) {
         rows::Survivors::Refused(r) => programs::refuse(1, r),
         rows::Survivors::Counted(survivors) => match reading::unfold(
@@ -47,25 +48,22 @@ fn all_levels(sizes: Sizes, rows: &[u16], lambda: &[u8], delta: &[u8], table: &m
     let mut words = [0u64; 64];
     let top = sizes.h.0;
     for l in 0..=top {
-        one_level(sizes, rows, lambda, delta, Level(l), table, &mut words);
+        let at = AtLevel {
+            sizes,
+            level: Level(l),
+        };
+        one_level(at, rows, lambda, delta, table, &mut words);
     }
 }
 
 // n, N and h, then each level.
-fn print_pyramid(
-    n: Dim,
-    darts: u16,
-    h: Level,
-    rows: &[u16],
-    lambda: &[u8],
-    delta: &[u8],
-    table: &mut [u16],
-) {
+fn print_pyramid(sizes: Sizes, rows: &[u16], lambda: &[u8], delta: &[u8], table: &mut [u16]) {
+    let n = sizes.n;
+    let h = sizes.h;
     io::print_decimal(1, n.0 as u64);
-    programs::number(1, darts as u64);
+    programs::number(1, sizes.darts as u64);
     programs::number(1, h.0 as u64);
     io::write_all(1, b"\n");
-    let sizes = Sizes { n, h, darts };
     all_levels(sizes, rows, lambda, delta, table);
 }
 
@@ -85,13 +83,11 @@ fn main() {
         &mut table,
     ) {
         Taken::Refused(r) => programs::refuse(1, r),
-        Taken::Record(n, h, darts) => {
-            let width = darts as usize;
-            let size = answers::entries(n, darts);
+        Taken::Record(sizes) => {
+            let width = sizes.darts as usize;
+            let size = answers::entries(sizes.n, sizes.darts);
             print_pyramid(
-                n,
-                darts,
-                h,
+                sizes,
                 &rows[..size],
                 &lambda[..width],
                 &delta[..width],

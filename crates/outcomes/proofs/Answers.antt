@@ -27,9 +27,9 @@ use Rattle.rows.specs.declared.counted.Survivors.the-variants.{Counted as Ones,
 use Rattle.checking.specs.Answers.{addedOf, heightOf}
 use Rattle.checking.specs.declared.pyramid.Added.{Added}
 use Rattle.checking.specs.declared.pyramid.Added.the-variants.{Grown, Refused as NotAdded}
-use Rattle.records.specs.Answers.{Outcome, saying, takenOf}
-use Rattle.records.specs.declared.Taken.{Taken}
-use Rattle.records.specs.declared.Taken.the-variants.{Record, Refused as NotTaken}
+use Rattle.taking.specs.Answers.{Outcome, saying, takenOf}
+use Rattle.taking.specs.declared.Taken.{Taken}
+use Rattle.taking.specs.declared.Taken.the-variants.{Record, Refused as NotTaken}
 use Rattle.writing.specs.Answers.{Outcome as Writing, writtenOf}
 use Rattle.writing.specs.declared.Written.{Written}
 use Rattle.writing.specs.declared.Written.the-variants.{Bytes, Refused as NotWritten}
@@ -156,10 +156,10 @@ added-told h (NotAdded r) = refusal-told (fromVerdict (Grown (level h)) NotAdded
 
 -- the answer of taking a record
 abbrev pub takenFrom : Outcome → Taken
-takenFrom x = fromVerdict (Record (dimension (x .dimension)) (level (x .height)) (x .darts)) NotTaken (x .verdict)
+takenFrom x = fromVerdict (Record (record { n = dimension (x .dimension); h = level (x .height); darts = x .darts })) NotTaken (x .verdict)
 
 pub taken-told : (t : Taken) → takenFrom (takenOf t) ≡ t
-taken-told (Record n h darts) = refl
+taken-told (Record sizes) = refl
 taken-told (NotTaken r) = refusal-told (λ v. takenFrom (saying v 0 0 0)) NotTaken (λ k l i d. refl) r
 
 -- the answer of writing a record

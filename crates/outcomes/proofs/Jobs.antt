@@ -7,7 +7,7 @@ use Rattle.maps.specs.Census.{censusLent}
 use Rattle.maps.specs.Folded.{ofParts}
 use Rattle.answers.specs.Numbers.{verdictOf, said}
 use Rattle.questions.specs.Answers.{valueOf}
-use Rattle.records.specs.Answers.{takenOf}
+use Rattle.taking.specs.Answers.{takenOf}
 use Rattle.writing.specs.Answers.{writtenOf}
 use Rattle.shrinking.specs.Answers.{factorOf}
 use Rattle.rebasing.specs.Answers.{rebasedOf}
@@ -42,9 +42,10 @@ use Rattle.reading.proofs.read.Reads as read
 use Rattle.reading.proofs.unfold.Reads as unfold-level
 use Rattle.levelwise.proofs.read_by_levels.Reads as by-levels
 use Rattle.cells.proofs.mark_cells.Reads as mark-cells
-use Rattle.records.proofs.unpack.Reads as unpack
 use Rattle.taking.proofs.take.Reads as take
+use Rattle.taking.proofs.take_old.Reads as take-old
 use Rattle.writing.proofs.write.Reads as write
+use Rattle.writing.proofs.write_accepted.Reads as write-accepted
 use Rattle.shrinking.proofs.decimation.Reads as decimation
 use Rattle.counting.proofs.census.Reads as census
 use Rattle.counting.proofs.census_into.Reads as census-into
@@ -110,20 +111,23 @@ pub mark-cells-one : (κs : Lfts 2) → OneOutcome (mark-cells.Learnt κs) (λ r
 mark-cells-one κs a r r′ s s′ c c′ =
     (sym (check-told r) ∙ ap checkFrom (c .0 ∙ sym (c′ .0)) ∙ check-told r′, marking-same (a .0 .0) (a .1 .0) (now (a .1 .1 .0)) (a .1 .1 .1 .0 .0) (now (a .1 .1 .1 .1 .0)) _ _ (c .1) (c′ .1))
 
--- rows, Λ and Δ
-pub unpack-one : (κs : Lfts 5) → OneOutcome (unpack.Learnt κs) (λ r. r) (λ s. three (now (s .1 .1 .0)) (now (s .1 .1 .1 .0)) (now (s .1 .1 .1 .1 .0)))
-unpack-one κs =
-    one-outcome _ _ _ (λ a. takenOf) takenFrom (λ a. taken-told) _ _ (λ a r s c.
-    (c .0, same-three (c .1 .0) (c .1 .1 .0) (c .1 .1 .1)))
-
 -- rows, Λ, Δ and the table
 pub take-one : (κs : Lfts 5) → OneOutcome (take.Learnt κs) (λ r. r) (λ s. four (now (s .1 .0)) (now (s .1 .1 .0)) (now (s .1 .1 .1 .0)) (now (s .1 .1 .1 .1 .0)))
 take-one κs =
     one-outcome _ _ _ (λ a. takenOf) takenFrom (λ a. taken-told) _ _ (λ a r s c.
     (c .0, same-four (c .1 .0) (c .1 .1 .0) (c .1 .1 .1 .0) (c .1 .1 .1 .1)))
 
+pub take-old-one : (κs : Lfts 5) → OneOutcome (take-old.Learnt κs) (λ r. r) (λ s. four (now (s .1 .0)) (now (s .1 .1 .0)) (now (s .1 .1 .1 .0)) (now (s .1 .1 .1 .1 .0)))
+take-old-one κs =
+    one-outcome _ _ _ (λ a. takenOf) takenFrom (λ a. taken-told) _ _ (λ a r s c.
+    (c .0, same-four (c .1 .0) (c .1 .1 .0) (c .1 .1 .1 .0) (c .1 .1 .1 .1)))
+
+-- the buffer
+pub write-accepted-one : (κs : Lfts 4) → OneOutcome (write-accepted.Learnt κs) (λ r. r) (λ s. now (s .1 .1 .1 .1 .0))
+write-accepted-one κs = one-outcome _ _ _ (λ a. writtenOf) writtenFrom (λ a. written-told) _ _ (λ a r s c. (c .0, c .1))
+
 -- the table and the buffer
-pub write-one : (κs : Lfts 5) → OneOutcome (write.Learnt κs) (λ r. r) (λ s. pair (now (s .1 .1 .1 .1 .1 .1 .0)) (now (s .1 .1 .1 .1 .1 .1 .1 .0)))
+pub write-one : (κs : Lfts 5) → OneOutcome (write.Learnt κs) (λ r. r) (λ s. pair (now (s .1 .1 .1 .1 .0)) (now (s .1 .1 .1 .1 .1 .0)))
 write-one κs = one-outcome _ _ _ (λ a. writtenOf) writtenFrom (λ a. written-told) _ _ (λ a r s c. (c .0, same-pair (c .1 .0) (c .1 .1)))
 
 -- the table

@@ -19,8 +19,7 @@ use Rattle.maps.specs.Folded.{ofParts}
 use Rattle.answers.specs.Numbers.{refusalOf}
 use Rattle.answers.specs.declared.Refusal.{Refusal}
 use Rattle.answers.proofs.Refusals.{refusal-keeps, refusal-refuses, refused-first, refused-second, accepted-both}
-use Rattle.records.specs.Answers.{Outcome, saying, unpacked}
-use Rattle.taking.specs.Answers.{taken}
+use Rattle.taking.specs.Answers.{Outcome, saying, unpacked, taken}
 
 -- the front of a list lies in it
 in-front : (front rest : List ℕ) {all : List ℕ} {m : ℕ} → all ≡ front ++ rest → length front ≡ m → m ≤ length all

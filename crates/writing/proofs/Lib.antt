@@ -1,3 +1,3 @@
 mod Put
-mod Whole
+pub mod Whole
 pub mod TakenBack

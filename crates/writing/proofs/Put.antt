@@ -6,9 +6,9 @@ use native.Mathlib.Omega.{arith}
 use lib.ListN.{length, getD, set, drop, length-append, length-set, List·getD-append}
 use lib.Seq.{getD-append-add}
 use Rattle.maps.specs.Write.{fieldWritten}
-use Rattle.records.specs.Parts.{Laid}
-use Rattle.records.proofs.Laid.{laid-more, laid-on, laid-same, laid-front}
-use Rattle.records.proofs.Fields.{low-two, high-two}
+use Rattle.taking.specs.Parts.{Laid}
+use Rattle.taking.proofs.Laid.{laid-more, laid-on, laid-same, laid-front}
+use Rattle.taking.proofs.Fields.{low-two, high-two}
 use Rattle.writing.specs.Put.{headOf, entryByte, Put}
 
 -- the two bytes of entry d

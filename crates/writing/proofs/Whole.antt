@@ -1,5 +1,5 @@
 -- Laws of a whole writing: the record's size, and what is answered and left behind. Assumes nothing.
-use mathlib.Core.Path.{_≡_, refl, sym, ap₂, _∙_}
+use mathlib.Core.Path.{_≡_, refl, ap₂, _∙_}
 use mathlib.Core.Bool.{true, false}
 use mathlib.Core.List.{List}
 use Prim.Native.Nat.{ℕ, _≤_, _<_}
@@ -11,63 +11,63 @@ use Rattle.maps.specs.Verdict.{Verdict, accepted, _then_}
 use Rattle.maps.specs.Sizes.{number4}
 use Rattle.maps.specs.CheckPyramid.{checkLent}
 use Rattle.maps.specs.Accepted.{Accepted}
-use Rattle.maps.specs.Write.{written, writeLent, writeLength, writeLeaves}
+use Rattle.maps.specs.Write.{recordOf, writeLent, writeLength, writeLeaves}
 use Rattle.laws.proofs.Sizes.{Sized}
-use Rattle.maps.specs.Folded.{ofParts}
+use Rattle.maps.specs.Folded.{Folded}
 use Rattle.facts.proofs.ExactJobs.{check-accepts}
 use Rattle.answers.specs.Numbers.{refusalOf}
 use Rattle.answers.specs.declared.Refusal.{Refusal}
 use Rattle.answers.specs.declared.Refusal.the-variants.{Length}
-use Rattle.answers.proofs.Refusals.{refusal-keeps, refused-first, refused-second}
-use Rattle.records.proofs.RoundTrip.{written-length}
-use Rattle.writing.specs.Answers.{Outcome, writing}
+use Rattle.answers.proofs.Refusals.{refusal-keeps, refused-first}
+use Rattle.taking.proofs.RoundTrip.{written-length}
+use Rattle.writing.specs.Answers.{Outcome, writing, Checked, bufferLent, putting, putLeaves}
 use Rattle.writing.specs.Put.{recordSize, Put}
 use Rattle.writing.proofs.Put.{put-front}
 
-module _ (n N h : ℕ) (rows lambda delta table bytes : List ℕ) where
-  abbrev W : List ℕ
-  W = written n h N rows lambda delta
+module _ (f : Folded) where
+  -- a pyramid that the check accepts
+  module _ (e : Checked f) where
+    pub accepts : Accepted f (e .0)
+    accepts = check-accepts f (e .0) (e .1)
 
-  abbrev verdict : Verdict
-  verdict = writeLent (ofParts n N h rows lambda delta) table bytes
-
-  tests : verdict ≡ (checkLent (ofParts n N h rows lambda delta) table then number4 (leb (length W) (length bytes)))
-  unfolding writeLent
-  tests = refl
-
-  -- the answer, and what is left in the buffer
-  abbrev Answers : Outcome → List ℕ → Type 0
-  Answers o after = (o ≡ writing n N h rows lambda delta table bytes) × (after ≡ writeLeaves (ofParts n N h rows lambda delta) table bytes)
-
-  refused : (r : Refusal) → refusalOf r ≡ verdict → Answers (record { verdict = refusalOf r; bytes = 0 }) bytes
-  unfolding writeLength writeLeaves
-  refused r e = (ap₂ (λ (v : Verdict) (m : ℕ). record { verdict = v; bytes = m }) e (refusal-keeps r verdict (length W) 0 e), refusal-keeps r verdict _ bytes e)
-
-  -- what the check refuses
-  pub check-refused : (r : Refusal) → refusalOf r ≡ checkLent (ofParts n N h rows lambda delta) table → Answers (record { verdict = refusalOf r; bytes = 0 }) bytes
-  check-refused r e = refused r (refused-first verdict _ _ tests r e)
-
-  module _ (e : accepted ≡ checkLent (ofParts n N h rows lambda delta) table) where
-    pub accepts : Accepted (ofParts n N h rows lambda delta) table
-    accepts = check-accepts (ofParts n N h rows lambda delta) table (sym e)
-
-    pub record-size : length (written n h N rows lambda delta) ≡ recordSize n N
+    pub record-size : length (recordOf f) ≡ recordSize (f .n) (f .N)
     record-size =
         let p = accepts in
-        let s : Sized n N h = record { one-dimension = p .dimension .0; dimension = p .dimension .1; one-dart = p .darts .0; darts = p .darts .1; height = p .height } in
-        written-length n h N rows lambda delta s (p .rows-length) (p .lambda-length) (p .delta-length)
+        let s : Sized (f .n) (f .N) (f .h) = record { one-dimension = p .dimension .0; dimension = p .dimension .1; one-dart = p .darts .0; darts = p .darts .1; height = p .height } in
+        written-length (f .n) (f .h) (f .N) (f .rows) (f .lambda) (f .delta) s (p .rows-length) (p .lambda-length) (p .delta-length)
 
-    -- a buffer that is too short
-    pub too-short : length bytes < recordSize n N → Answers (record { verdict = refusalOf Length; bytes = 0 }) bytes
-    unfolding number4
-    too-short l =
-        let few : leb (length W) (length bytes) ≡ false = lt-leb (length W) (length bytes) (omega (arith, record-size)) in
-        refused Length (refused-second verdict _ _ tests Length e (rw few))
+    module _ (bytes : List ℕ) where
+      -- a buffer that is too short
+      pub too-short : length bytes < recordSize (f .n) (f .N) → (record { verdict = refusalOf Length; bytes = 0 } ≡ putting f bytes) × (bytes ≡ putLeaves f bytes)
+      unfolding number4
+      too-short l =
+          let few : leb (length (recordOf f)) (length bytes) ≡ false = lt-leb (length (recordOf f)) (length bytes) (omega (arith, record-size)) in
+          (rw few, rw few)
 
-    -- the record is written
-    pub all-written : {after : List ℕ} → recordSize n N ≤ length bytes → Put W 0 bytes after → Answers (record { verdict = accepted; bytes = recordSize n N }) after
-    unfolding writeLength writeLeaves number4
-    all-written l s =
-        let enough : leb (length W) (length bytes) ≡ true = le-leb (length W) (length bytes) (omega (arith, record-size)) in
-        let v : verdict ≡ accepted = tests ∙ rw (← e, enough) in
-        (rw (v, record-size), rw v (put-front s (omega (arith, record-size))))
+      -- the record is written
+      pub all-written : {after : List ℕ} → recordSize (f .n) (f .N) ≤ length bytes → Put (recordOf f) 0 bytes after → (record { verdict = accepted; bytes = recordSize (f .n) (f .N) } ≡ putting f bytes) × (after ≡ putLeaves f bytes)
+      unfolding number4
+      all-written l s =
+          let enough : leb (length (recordOf f)) (length bytes) ≡ true = le-leb (length (recordOf f)) (length bytes) (omega (arith, record-size)) in
+          (rw (enough, record-size), rw enough (put-front s (omega (arith, record-size))))
+
+  module _ (table bytes : List ℕ) where
+    -- the answer, and what is left in the buffer
+    abbrev Answers : Outcome → List ℕ → Type 0
+    Answers o after = (o ≡ writing f table bytes) × (after ≡ writeLeaves f table bytes)
+
+    tests : writeLent f table bytes ≡ (checkLent f table then bufferLent f bytes)
+    unfolding writeLent
+    tests = refl
+
+    -- what the check refuses
+    pub check-refused : (r : Refusal) → refusalOf r ≡ checkLent f table → Answers (record { verdict = refusalOf r; bytes = 0 }) bytes
+    unfolding writeLength writeLeaves
+    check-refused r e =
+        let v : refusalOf r ≡ writeLent f table bytes = refused-first _ _ _ tests r e in
+        (ap₂ (λ (v : Verdict) (m : ℕ). record { verdict = v; bytes = m }) v (refusal-keeps r (writeLent f table bytes) (length (recordOf f)) 0 v), refusal-keeps r (writeLent f table bytes) _ bytes v)
+
+    -- what it accepts is written
+    pub check-accepted : {o : Outcome} {after : List ℕ} → checkLent f table ≡ accepted → o ≡ putting f bytes → after ≡ putLeaves f bytes → Answers o after
+    unfolding writeLength writeLeaves
+    check-accepted e answer left = let v : writeLent f table bytes ≡ bufferLent f bytes = tests ∙ rw e in (answer ∙ rw v, left ∙ rw v)

@@ -1,14 +1,14 @@
 // A record's fields, put into a lent buffer: a head of tag and length, then the body. Assumes nothing.
-// Most of a row goes in parts of 64 entries, each read whole before any of it is written, so that a part is moved in registers (crates/records/src/copying.rt
+// Most of a row goes in parts of 64 entries, each read whole before any of it is written, so that a part is moved in registers (crates/taking/src/copying.rt
 // says why).
 use answers::Dim;
-use answers::Level;
+use answers::Sizes;
 ghost use mathlib.Core.Path.{_≡_};
 ghost use mathlib.Core.List.{[], _∷_};
 ghost use Prim.Native.Nat.{ℕ, suc, _+_, _*_, _/_, _%_, _≤_, _<_};
 ghost use lib.ListN.{length, getD};
 ghost use Rattle.maps.specs.Write.{fieldWritten, inTwoBytes, rowsWritten};
-ghost use Rattle.records.specs.Parts.{Laid};
+ghost use Rattle.taking.specs.Parts.{Laid};
 ghost use Rattle.writing.specs.Put.{headOf, entryByte, Put};
 
 // A byte as a wider number.
@@ -53,7 +53,7 @@ fn put_part(row: &[u16], from: usize, to: &mut [u8], at: usize)
     ensures { λ _. ⌜ Laid (entryByte (now (row .entry)) from) at 128 (now (to .entry)) (now (to .exit)) ⌝ }
 {
     let part = bytes_of(row, from);
-    records::copy_few_bytes(&part, 0, 128, to, at);
+    taking::copy_few_bytes(&part, 0, 128, to, at);
 }
 
 // Entries, one by one.
@@ -95,10 +95,13 @@ fn put_head(tag: u8, size: u16, to: &mut [u8], at: usize)
 }
 
 // The header: n, h, N.
-pub(crate) fn put_header(n: Dim, h: Level, darts: u16, to: &mut [u8])
+pub(crate) fn put_header(sizes: Sizes, to: &mut [u8])
     requires { ⌜ 7 ≤ length (now to) ⌝ }
-    ensures { λ _. ⌜ Put (fieldWritten 0x01 (n .0 ∷ h .0 ∷ inTwoBytes (darts ∷ []))) 0 (now (to .entry)) (now (to .exit)) ⌝ }
+    ensures { λ _. ⌜ Put (fieldWritten 0x01 (sizes .n .0 ∷ sizes .h .0 ∷ inTwoBytes (sizes .darts ∷ []))) 0 (now (to .entry)) (now (to .exit)) ⌝ }
 {
+    let n = sizes.n;
+    let h = sizes.h;
+    let darts = sizes.darts;
     put_head(0x01, 4, to, 0);
     to[3] = n.0;
     to[4] = h.0;
@@ -137,5 +140,5 @@ pub(crate) fn put_marks(tag: u8, marks: &[u8], to: &mut [u8], at: usize)
     ensures { λ _. ⌜ Put (fieldWritten tag (now (marks .entry))) at (now (to .entry)) (now (to .exit)) ⌝ }
 {
     put_head(tag, marks.len() as u16, to, at);
-    records::copy_bytes(marks, 0, marks.len(), to, at + 3);
+    taking::copy_bytes(marks, 0, marks.len(), to, at + 3);
 }

@@ -1,10 +1,20 @@
 -- The structs that the C interface returns, for each outcome: each begins with its refusal, which is 0 0 0 0 where accepted; all else is 0 in a refusal, but for a height and the darts of a base. Assumes nothing: these are definitions.
+use mathlib.Core.Path.{_≡_}
 use mathlib.Core.Bool.{cond}
+use mathlib.Core.List.{List}
 use Prim.Native.Nat.{ℕ, _+_, _*_}
+use lib.IntN.{ℤ}
 use lib.Dec.{eqb}
+use denote.Ref.{RefT, now}
 use Rattle.maps.specs.Verdict.{Verdict, accepted, refused, ifAccepted}
-use Rattle.maps.specs.Read.{Reading, found, none}
-use Rattle.records.specs.Answers.{Outcome}
+use Rattle.maps.specs.Folded.{Folded}
+use Rattle.maps.specs.AddLevel.{addLent, addHeight}
+use Rattle.maps.specs.Read.{Reading, found, none, readLent, readSince}
+use Rattle.maps.specs.Unfold.{unfoldLent, unfoldTotal, unfoldSince}
+use Rattle.maps.specs.Join.{joinLent, joinHeight}
+use Rattle.maps.specs.Census.{censusLent, CensusPutLeaves}
+use Rattle.maps.specs.Partner.{importLent, ImportLeaves, exportLent, Exports}
+use Rattle.taking.specs.Answers.{Outcome}
 use Rattle.writing.specs.Answers.{Outcome as Writing}
 use Rattle.shrinking.specs.Answers.{Outcome as Shrinking}
 use Rattle.rebasing.specs.Answers.{Outcome as Rebasing}
@@ -70,6 +80,35 @@ factorFor o = record { refusal = refusalFor (o .verdict); empty = o .empty; fact
 -- a verdict with the darts and the height of the new base, which in a refusal are those given
 abbrev pub baseFor : Rebasing → ZgBase
 baseFor o = record { refusal = refusalFor (o .verdict); darts = o .darts; h = o .height }
+
+-- what adding a level answers
+abbrev pub addFor : Folded → List ℕ → List ℕ → ZgHeight
+addFor f marks table = heightFor (addLent f marks table) (addHeight f marks table)
+
+-- what joining two kernels answers
+abbrev pub joinFor : Folded → List ℕ → ℕ → ZgHeight
+joinFor f table l = heightFor (joinLent f table l) (joinHeight f table l)
+
+-- what a direct reading answers
+abbrev pub readFor : Folded → ℕ → ℕ → ℕ → ZgLink
+readFor f l i d = linkFor (readLent f l i d) (readSince f l i d)
+
+-- what an unfolding answers
+abbrev pub unfoldFor : Folded → ℕ → List ℕ → ZgUnfolding
+unfoldFor f l table = unfoldingFor (unfoldLent f l table) (unfoldTotal f l table) (unfoldSince f l table)
+
+-- what a census leaves in counts and sums, from those found
+abbrev pub CensusFor : Folded → RefT (List ℕ) → RefT (List ℕ) → RefT (List ℤ) → RefT (List ℕ) → RefT (List ℤ) → Type 0
+CensusFor f table oldCells oldSums cells sums = CensusPutLeaves f (censusLent f (now table) (now oldCells) (now oldSums)) (now oldCells) (now oldSums) (now cells) (now sums)
+
+-- what bringing in a map leaves in the rows, from those found
+abbrev pub ImportFor : ℕ → RefT (List ℕ) → RefT (List ℕ) → RefT (List ℕ) → RefT (List ℕ) → Type 0
+ImportFor m edges vertices oldRows rows = ImportLeaves m (now edges) (now vertices) (now oldRows) (importLent m (now edges) (now vertices) (now oldRows)) (now rows)
+
+-- what taking it back answers, and leaves in the two rows, from those found
+abbrev pub ExportFor : ℕ → ℕ → RefT (List ℕ) → RefT (List ℕ) → RefT (List ℕ) → ZgRefusal → RefT (List ℕ) → RefT (List ℕ) → Type 0
+ExportFor n N rows oldEdges oldVertices r edges vertices =
+    (answer : Verdict) × (r ≡ refusalFor answer) × Exports (now rows) (now oldEdges) (now oldVertices) (exportLent n N (now rows) (now oldEdges) (now oldVertices)) answer (now edges) (now vertices)
 
 -- a version in one number: a byte each for the two smaller parts
 abbrev pub versionFor : ℕ → ℕ → ℕ → ℕ

@@ -10,22 +10,22 @@ ghost use mathlib.Core.Path.{_≡_};
 ghost use Prim.Native.Nat.{_*_, _≤_};
 ghost use mathlib.Core.Bool.{cond};
 ghost use lib.Dec.{eqb};
-ghost use Rattle.maps.specs.Verdict.{Verdict, accepted};
+ghost use Rattle.maps.specs.Verdict.{accepted};
 ghost use Rattle.maps.specs.CheckBase.{checkBase};
 ghost use Rattle.maps.specs.CheckPyramid.{checkLent, checkLeaves};
-ghost use Rattle.maps.specs.AddLevel.{addLent, addHeight, addLambda, addDelta, addLeaves};
+ghost use Rattle.maps.specs.AddLevel.{addLambda, addDelta, addLeaves};
 ghost use Rattle.maps.specs.MarksBack.{marksLent, marksLeaves};
-ghost use Rattle.maps.specs.Read.{readLent, readSince, readLentByLevels};
-ghost use Rattle.maps.specs.Unfold.{unfoldLent, unfoldTotal, unfoldSince, unfoldLeaves};
+ghost use Rattle.maps.specs.Read.{readLentByLevels};
+ghost use Rattle.maps.specs.Unfold.{unfoldLeaves};
 ghost use Rattle.maps.specs.Row.{rowLent};
 ghost use Rattle.maps.specs.Survivors.{survivorsLent, survivorCount, survivorWords};
 ghost use Rattle.maps.specs.MarkCells.{markLent, MarkLeaves};
 ghost use Rattle.maps.specs.Record.{wide, takeRows, takeLambda, takeDelta, takeTable};
 ghost use Rattle.maps.specs.Write.{writeTable, writeLeaves};
 ghost use Rattle.maps.specs.Decimation.{decimationTable};
-ghost use Rattle.maps.specs.Census.{censusLent, censusTable, CensusPutLeaves};
-ghost use Rattle.maps.specs.Partner.{importLent, ImportLeaves, exportLent, Exports};
-ghost use Rattle.maps.specs.Join.{joinLent, joinHeight, joinLambda, joinLeaves};
+ghost use Rattle.maps.specs.Census.{censusLent, censusTable};
+ghost use Rattle.maps.specs.Partner.{importLent};
+ghost use Rattle.maps.specs.Join.{joinLambda, joinLeaves};
 ghost use Rattle.maps.specs.Rebase.{rebaseRows, rebaseLambda, rebaseDelta, rebaseOld, rebaseTable};
 ghost use Rattle.answers.specs.Numbers.{refusalOf, verdictOf};
 ghost use Rattle.answers.specs.Pyramid.{given};
@@ -33,13 +33,12 @@ ghost use Rattle.checking.specs.Answers.{addedOf, heightOf};
 ghost use Rattle.questions.specs.Answers.{valueOf};
 ghost use Rattle.reading.specs.Answers.{valueOf as linkOf, standsSince, checkOf, totalOf, latestOf};
 ghost use Rattle.rows.specs.Answers.{verdictOfSurvivors, countOfSurvivors};
-ghost use Rattle.records.specs.Answers.{takenOf};
-ghost use Rattle.taking.specs.Answers.{taken};
+ghost use Rattle.taking.specs.Answers.{takenOf, taken};
 ghost use Rattle.writing.specs.Answers.{writtenOf, writing};
 ghost use Rattle.shrinking.specs.Answers.{factorOf, decimating};
 ghost use Rattle.joining.specs.Answers.{joinedOf, heightOf as lowerOf};
 ghost use Rattle.rebasing.specs.Answers.{rebasedOf, rebasing};
-ghost use Rattle.zompelgors.specs.Flat.{refusalFor, saidBy, readingFor, linkFor, countFor, unfoldingFor, heightFor, partFor, recordFor, writtenFor, factorFor, baseFor, versionFor};
+ghost use Rattle.zompelgors.specs.Flat.{refusalFor, saidBy, readingFor, linkFor, countFor, unfoldingFor, heightFor, partFor, recordFor, writtenFor, factorFor, baseFor, addFor, joinFor, readFor, unfoldFor, CensusFor, ImportFor, ExportFor, versionFor};
 
 // The document's number and values; all 0 where accepted.
 #[repr(C)]
@@ -156,7 +155,7 @@ fn refused(refusal: Refusal) -> ZgRefusal
 }
 
 // The answer of a check.
-fn checked(check: Check) -> ZgRefusal
+fn checked_as(check: Check) -> ZgRefusal
     ensures { λ r. ⌜ r ≡ refusalFor (verdictOf check) ⌝ }
 {
     match check {
@@ -190,7 +189,7 @@ fn read_as(answer: questions::Reading) -> ZgReading
 }
 
 // The answer of a direct reading.
-fn linked(answer: reading::Reading) -> ZgLink
+fn linked_as(answer: reading::Reading) -> ZgLink
     ensures { λ r. ⌜ r ≡ linkFor (linkOf answer) (standsSince answer) ⌝ }
 {
     match answer {
@@ -216,7 +215,7 @@ fn linked(answer: reading::Reading) -> ZgLink
 }
 
 // The answer of an unfolding.
-fn totalled(total: reading::Total) -> ZgUnfolding
+fn unfolded_as(total: reading::Total) -> ZgUnfolding
     ensures { λ r. ⌜ r ≡ unfoldingFor (checkOf total) (totalOf total) (latestOf total) ⌝ }
 {
     match total {
@@ -240,7 +239,7 @@ fn totalled(total: reading::Total) -> ZgUnfolding
 }
 
 // The answer of the survivor words.
-fn counted(answer: rows::Survivors) -> ZgCount
+fn counted_as(answer: rows::Survivors) -> ZgCount
     ensures { λ r. ⌜ r ≡ countFor (verdictOfSurvivors answer) (countOfSurvivors answer) ⌝ }
 {
     match answer {
@@ -256,8 +255,8 @@ fn counted(answer: rows::Survivors) -> ZgCount
 }
 
 // The answer of an add, where h was the height.
-fn grown(h: u8, answer: checking::Added) -> ZgHeight
-    ensures { λ r. ⌜ r ≡ heightFor (addedOf answer) (heightOf h answer) ⌝ }
+fn added_as(h: Level, answer: checking::Added) -> ZgHeight
+    ensures { λ r. ⌜ r ≡ heightFor (addedOf answer) (heightOf (h .0) answer) ⌝ }
 {
     match answer {
         checking::Added::Grown(new) => {
@@ -269,14 +268,17 @@ fn grown(h: u8, answer: checking::Added) -> ZgHeight
         },
         checking::Added::Refused(why) => {
             let refusal = refused(why);
-            ZgHeight { refusal, height: h }
+            ZgHeight {
+                refusal,
+                height: h.0,
+            }
         },
     }
 }
 
 // The answer of a join, where this was the height.
-fn lowered(height: u8, answer: joining::Joined) -> ZgHeight
-    ensures { λ r. ⌜ r ≡ heightFor (joinedOf answer) (lowerOf height answer) ⌝ }
+fn joined_as(height: Level, answer: joining::Joined) -> ZgHeight
+    ensures { λ r. ⌜ r ≡ heightFor (joinedOf answer) (lowerOf (height .0) answer) ⌝ }
 {
     match answer {
         joining::Joined::Lowered(new) => {
@@ -288,31 +290,34 @@ fn lowered(height: u8, answer: joining::Joined) -> ZgHeight
         },
         joining::Joined::Refused(why) => {
             let refusal = refused(why);
-            ZgHeight { refusal, height }
+            ZgHeight {
+                refusal,
+                height: height.0,
+            }
         },
     }
 }
 
 // Is the row of a level other than 0?
-fn is_unfolded(level: u8) -> u8
-    ensures { λ r. ⌜ r ≡ cond (eqb level 0) 0 1 ⌝ }
+fn is_unfolded(level: Level) -> u8
+    ensures { λ r. ⌜ r ≡ cond (eqb (level .0) 0) 0 1 ⌝ }
 {
-    if level == 0 {
+    if level.0 == 0 {
         return 0;
     }
     1
 }
 
 // The place of a row, or why it is refused.
-fn part_as(check: Check, darts: u16, level: u8, involution: u8) -> ZgPart
-    requires { ⌜ (verdictOf check ≡ accepted → involution * darts ≤ 16384) ⌝ }
-    ensures { λ r. ⌜ r ≡ partFor (verdictOf check) darts level involution ⌝ }
+fn part_as(check: Check, darts: u16, level: Level, involution: Dim) -> ZgPart
+    requires { ⌜ (verdictOf check ≡ accepted → involution .0 * darts ≤ 16384) ⌝ }
+    ensures { λ r. ⌜ r ≡ partFor (verdictOf check) darts (level .0) (involution .0) ⌝ }
 {
     match check {
         Check::Accepted => {
             let refusal = accepts();
             let unfolded = is_unfolded(level);
-            let start = involution as u16 * darts;
+            let start = involution.0 as u16 * darts;
             ZgPart {
                 refusal,
                 unfolded,
@@ -333,20 +338,22 @@ fn part_as(check: Check, darts: u16, level: u8, involution: u8) -> ZgPart
 }
 
 // The answer of taking a record.
-fn taken_as(answer: records::Taken) -> ZgRecord
+fn taken_as(answer: taking::Taken) -> ZgRecord
     ensures { λ r. ⌜ r ≡ recordFor (takenOf answer) ⌝ }
 {
     match answer {
-        records::Taken::Record(n, h, darts) => {
+        taking::Taken::Record(sizes) => {
             let refusal = accepts();
+            let n = sizes.n;
+            let h = sizes.h;
             ZgRecord {
                 refusal,
                 n: n.0,
                 h: h.0,
-                darts,
+                darts: sizes.darts,
             }
         },
-        records::Taken::Refused(why) => {
+        taking::Taken::Refused(why) => {
             let refusal = refused(why);
             ZgRecord {
                 refusal,
@@ -407,8 +414,8 @@ fn factor_as(answer: shrinking::Factor) -> ZgFactor
 }
 
 // The answer of starting again.
-fn based_as(darts: u16, h: u8, answer: rebasing::Rebased) -> ZgBase
-    ensures { λ r. ⌜ r ≡ baseFor (rebasedOf darts h answer) ⌝ }
+fn based_as(darts: u16, h: Level, answer: rebasing::Rebased) -> ZgBase
+    ensures { λ r. ⌜ r ≡ baseFor (rebasedOf darts (h .0) answer) ⌝ }
 {
     match answer {
         rebasing::Rebased::Base(fewer, height) => {
@@ -421,7 +428,11 @@ fn based_as(darts: u16, h: u8, answer: rebasing::Rebased) -> ZgBase
         },
         rebasing::Rebased::Refused(why) => {
             let refusal = refused(why);
-            ZgBase { refusal, darts, h }
+            ZgBase {
+                refusal,
+                darts,
+                h: h.0,
+            }
         },
     }
 }
@@ -446,7 +457,7 @@ pub extern "C" fn zg_version() -> u32
 pub extern "C" fn zg_check_base(n: u8, darts: u16, rows: &[u16]) -> ZgRefusal
     ensures { λ r. ⌜ r ≡ refusalFor (checkBase n darts (now (rows .entry))) ⌝ }
 {
-    checked(bases::check_base(Dim(n), darts, rows))
+    checked_as(bases::check_base(Dim(n), darts, rows))
 }
 
 // Checks a whole pyramid.
@@ -468,7 +479,7 @@ pub extern "C" fn zg_check(
         h: Level(h),
         darts,
     };
-    checked(checking::check(sizes, rows, lambda, delta, table))
+    checked_as(checking::check(sizes, rows, lambda, delta, table))
 }
 
 // Adds a level on top.
@@ -483,7 +494,7 @@ pub extern "C" fn zg_add(
     marks: &[u8],
     table: &mut [u16],
 ) -> ZgHeight
-    ensures answer { λ r. ⌜ r ≡ heightFor (addLent (given n darts h (rows .entry) (lambda .entry) (delta .entry)) (now (marks .entry)) (now (table .entry))) (addHeight (given n darts h (rows .entry) (lambda .entry) (delta .entry)) (now (marks .entry)) (now (table .entry))) ⌝ }
+    ensures answer { λ r. ⌜ r ≡ addFor (given n darts h (rows .entry) (lambda .entry) (delta .entry)) (now (marks .entry)) (now (table .entry)) ⌝ }
     ensures lambda_left { λ _. ⌜ now (lambda .exit) ≡ addLambda (given n darts h (rows .entry) (lambda .entry) (delta .entry)) (now (marks .entry)) (now (table .entry)) ⌝ }
     ensures delta_left { λ _. ⌜ now (delta .exit) ≡ addDelta (given n darts h (rows .entry) (lambda .entry) (delta .entry)) (now (marks .entry)) (now (table .entry)) ⌝ }
     ensures table_left { λ _. ⌜ now (table .exit) ≡ addLeaves (given n darts h (rows .entry) (lambda .entry) (delta .entry)) (now (marks .entry)) (now (table .entry)) ⌝ }
@@ -493,7 +504,10 @@ pub extern "C" fn zg_add(
         h: Level(h),
         darts,
     };
-    grown(h, checking::add(sizes, rows, lambda, delta, marks, table))
+    added_as(
+        Level(h),
+        checking::add(sizes, rows, lambda, delta, marks, table),
+    )
 }
 
 // Reads the mark row of a level back.
@@ -515,7 +529,7 @@ pub extern "C" fn zg_marks_of(
         h: Level(h),
         darts,
     };
-    checked(rows::marks_of(sizes, lambda, delta, Level(level), marks))
+    checked_as(rows::marks_of(sizes, lambda, delta, Level(level), marks))
 }
 
 // Reads one neighbour on a level by the direct walk, and since which level the link stands.
@@ -531,14 +545,14 @@ pub extern "C" fn zg_read(
     involution: u8,
     dart: u16,
 ) -> ZgLink
-    ensures { λ r. ⌜ r ≡ linkFor (readLent (given n darts h (rows .entry) (lambda .entry) (delta .entry)) level involution dart) (readSince (given n darts h (rows .entry) (lambda .entry) (delta .entry)) level involution dart) ⌝ }
+    ensures { λ r. ⌜ r ≡ readFor (given n darts h (rows .entry) (lambda .entry) (delta .entry)) level involution dart ⌝ }
 {
     let sizes = Sizes {
         n: Dim(n),
         h: Level(h),
         darts,
     };
-    linked(reading::read(
+    linked_as(reading::read(
         sizes,
         rows,
         lambda,
@@ -596,7 +610,7 @@ pub extern "C" fn zg_unfold(
     level: u8,
     table: &mut [u16],
 ) -> ZgUnfolding
-    ensures answer { λ r. ⌜ r ≡ unfoldingFor (unfoldLent (given n darts h (rows .entry) (lambda .entry) (delta .entry)) level (now (table .entry))) (unfoldTotal (given n darts h (rows .entry) (lambda .entry) (delta .entry)) level (now (table .entry))) (unfoldSince (given n darts h (rows .entry) (lambda .entry) (delta .entry)) level (now (table .entry))) ⌝ }
+    ensures answer { λ r. ⌜ r ≡ unfoldFor (given n darts h (rows .entry) (lambda .entry) (delta .entry)) level (now (table .entry)) ⌝ }
     ensures table_left { λ _. ⌜ now (table .exit) ≡ unfoldLeaves (given n darts h (rows .entry) (lambda .entry) (delta .entry)) level (now (table .entry)) ⌝ }
 {
     let sizes = Sizes {
@@ -604,7 +618,7 @@ pub extern "C" fn zg_unfold(
         h: Level(h),
         darts,
     };
-    totalled(reading::unfold(sizes, rows, lambda, delta, Level(level), table))
+    unfolded_as(reading::unfold(sizes, rows, lambda, delta, Level(level), table))
 }
 
 // Says where a row of a level lies.
@@ -628,8 +642,8 @@ pub extern "C" fn zg_row(
     part_as(
         rows::row_refusal(sizes, base, unfolded, Level(level), Dim(involution)),
         darts,
-        level,
-        involution,
+        Level(level),
+        Dim(involution),
     )
 }
 
@@ -645,7 +659,7 @@ pub extern "C" fn zg_survivors(
     ensures answer { λ r. ⌜ r ≡ countFor (survivorsLent darts h (now (lambda .entry)) level (now (words .entry))) (survivorCount darts h (now (lambda .entry)) level (now (words .entry))) ⌝ }
     ensures words_left { λ _. ⌜ now (words .exit) ≡ survivorWords darts h (now (lambda .entry)) level (now (words .entry)) ⌝ }
 {
-    counted(rows::survivors(darts, Level(h), lambda, Level(level), words))
+    counted_as(rows::survivors(darts, Level(h), lambda, Level(level), words))
 }
 
 // Marks cells of one dimension on an explicit level: those that are removable and fall into two parts, but for one of each piece that would vanish.
@@ -660,7 +674,7 @@ pub extern "C" fn zg_mark_cells(
     ensures answer { λ r. ⌜ r ≡ refusalFor (markLent n darts (now (table .entry)) dimension (now (marks .entry))) ⌝ }
     ensures marks_left { λ _. ⌜ MarkLeaves n darts (now (table .entry)) dimension (now (marks .entry)) (markLent n darts (now (table .entry)) dimension (now (marks .entry))) (now (marks .exit)) ⌝ }
 {
-    checked(cells::mark_cells(Dim(n), darts, table, Dim(dimension), marks))
+    checked_as(cells::mark_cells(Dim(n), darts, table, Dim(dimension), marks))
 }
 
 // Takes a record into lent memory and checks its pyramid; after 5 to 10 rows and marks hold what the record said.
@@ -693,11 +707,16 @@ pub extern "C" fn zg_write(
     table: &mut [u16],
     bytes: &mut [u8],
 ) -> ZgWritten
-    ensures answer { λ r. ⌜ r ≡ writtenFor (writing n darts h (now (rows .entry)) (now (lambda .entry)) (now (delta .entry)) (now (table .entry)) (now (bytes .entry))) ⌝ }
+    ensures answer { λ r. ⌜ r ≡ writtenFor (writing (given n darts h (rows .entry) (lambda .entry) (delta .entry)) (now (table .entry)) (now (bytes .entry))) ⌝ }
     ensures table_left { λ _. ⌜ now (table .exit) ≡ writeTable (given n darts h (rows .entry) (lambda .entry) (delta .entry)) (now (table .entry)) (now (bytes .entry)) ⌝ }
     ensures bytes_left { λ _. ⌜ now (bytes .exit) ≡ writeLeaves (given n darts h (rows .entry) (lambda .entry) (delta .entry)) (now (table .entry)) (now (bytes .entry)) ⌝ }
 {
-    written_as(writing::write(Dim(n), darts, Level(h), rows, lambda, delta, table, bytes))
+    let sizes = Sizes {
+        n: Dim(n),
+        h: Level(h),
+        darts,
+    };
+    written_as(writing::write(sizes, rows, lambda, delta, table, bytes))
 }
 
 // By which factor an accepted pyramid shrinks from a level to the next; the table is left as the check leaves it.
@@ -738,9 +757,9 @@ pub extern "C" fn zg_census(
 ) -> ZgRefusal
     ensures answer { λ r. ⌜ r ≡ refusalFor (censusLent (given n darts h (rows .entry) (lambda .entry) (delta .entry)) (now (table .entry)) (now (cells .entry)) (now (sums .entry))) ⌝ }
     ensures table_left { λ _. ⌜ now (table .exit) ≡ censusTable (given n darts h (rows .entry) (lambda .entry) (delta .entry)) (now (table .entry)) (now (cells .entry)) (now (sums .entry)) ⌝ }
-    ensures counts_left { λ _. ⌜ CensusPutLeaves (given n darts h (rows .entry) (lambda .entry) (delta .entry)) (censusLent (given n darts h (rows .entry) (lambda .entry) (delta .entry)) (now (table .entry)) (now (cells .entry)) (now (sums .entry))) (now (cells .entry)) (now (sums .entry)) (now (cells .exit)) (now (sums .exit)) ⌝ }
+    ensures counts_left { λ _. ⌜ CensusFor (given n darts h (rows .entry) (lambda .entry) (delta .entry)) (table .entry) (cells .entry) (sums .entry) (cells .exit) (sums .exit) ⌝ }
 {
-    checked(census_into(
+    checked_as(census_into(
         Dim(n),
         darts,
         Level(h),
@@ -757,9 +776,9 @@ pub extern "C" fn zg_census(
 #[no_mangle]
 pub extern "C" fn zg_import(m: u16, edges: &[u16], vertices: &[u16], rows: &mut [u16]) -> ZgRefusal
     ensures answer { λ r. ⌜ r ≡ refusalFor (importLent m (now (edges .entry)) (now (vertices .entry)) (now (rows .entry))) ⌝ }
-    ensures rows_left { λ _. ⌜ ImportLeaves m (now (edges .entry)) (now (vertices .entry)) (now (rows .entry)) (importLent m (now (edges .entry)) (now (vertices .entry)) (now (rows .entry))) (now (rows .exit)) ⌝ }
+    ensures rows_left { λ _. ⌜ ImportFor m (edges .entry) (vertices .entry) (rows .entry) (rows .exit) ⌝ }
 {
-    checked(partner::import(m, edges, vertices, rows))
+    checked_as(partner::import(m, edges, vertices, rows))
 }
 
 // Takes a base back to the two rows that yield it.
@@ -771,9 +790,9 @@ pub extern "C" fn zg_export(
     edges: &mut [u16],
     vertices: &mut [u16],
 ) -> ZgRefusal
-    ensures { λ r. ⌜ ((answer : Verdict) × (r ≡ refusalFor answer) × Exports (now (rows .entry)) (now (edges .entry)) (now (vertices .entry)) (exportLent n darts (now (rows .entry)) (now (edges .entry)) (now (vertices .entry))) answer (now (edges .exit)) (now (vertices .exit))) ⌝ }
+    ensures { λ r. ⌜ ExportFor n darts (rows .entry) (edges .entry) (vertices .entry) r (edges .exit) (vertices .exit) ⌝ }
 {
-    checked(partner::export(Dim(n), darts, rows, edges, vertices))
+    checked_as(partner::export(Dim(n), darts, rows, edges, vertices))
 }
 
 // Joins the kernels of a level and the next of an accepted pyramid; Λ and the height fall.
@@ -788,7 +807,7 @@ pub extern "C" fn zg_join(
     table: &mut [u16],
     level: u8,
 ) -> ZgHeight
-    ensures answer { λ r. ⌜ r ≡ heightFor (joinLent (given n darts h (rows .entry) (lambda .entry) (delta .entry)) (now (table .entry)) level) (joinHeight (given n darts h (rows .entry) (lambda .entry) (delta .entry)) (now (table .entry)) level) ⌝ }
+    ensures answer { λ r. ⌜ r ≡ joinFor (given n darts h (rows .entry) (lambda .entry) (delta .entry)) (now (table .entry)) level ⌝ }
     ensures lambda_left { λ _. ⌜ now (lambda .exit) ≡ joinLambda (given n darts h (rows .entry) (lambda .entry) (delta .entry)) (now (table .entry)) level ⌝ }
     ensures table_left { λ _. ⌜ now (table .exit) ≡ joinLeaves (given n darts h (rows .entry) (lambda .entry) (delta .entry)) (now (table .entry)) level ⌝ }
 {
@@ -802,7 +821,7 @@ pub extern "C" fn zg_join(
         table,
         Level(level),
     );
-    lowered(h, answer)
+    joined_as(Level(h), answer)
 }
 
 // Starts again from a level of an accepted pyramid; the table is left as the check leaves it.
@@ -827,7 +846,7 @@ pub extern "C" fn zg_rebase(
 {
     based_as(
         darts,
-        h,
+        Level(h),
         rebasing::rebase(
             Dim(n),
             darts,

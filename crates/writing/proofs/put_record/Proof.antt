@@ -6,7 +6,7 @@ use native.Mathlib.Omega.{arith}
 use denote.Ref.{now}
 use borrow.Author.Needs.{needs}
 use Rattle.maps.specs.Write.{fieldWritten, inTwoBytes, written}
-use Rattle.records.proofs.Fields.{length-field, rows-written}
+use Rattle.taking.proofs.Fields.{length-field, rows-written}
 use Rattle.writing.proofs.Put.{put-on}
 use Rattle.writing.proofs.put_record.Statement.{statement}
 use Rattle.writing.proofs.put_record.Tie as tie
@@ -22,10 +22,10 @@ returns c =
     let lambda = delta .before .before .before .before in
     let rows = lambda .before .before .before .before in
     let header = rows .before .before .before .before in
-    let s = header .before .before .before .before .before .before .before in
+    let s = header .before .before .before .before .before .before .before .before in
     let a = s .args in
     let marks = put-on (lambda .put-marks .ensures) (delta .put-marks2 .ensures) (omega (arith, length-field 0x30 (now (a .lambda)))) in
-    let rest = put-on (rows .put-rows .ensures) marks (omega (arith, marks-at (a .n .0) (a .darts), rows-written (a .n .0) (a .darts) (now (a .rows)) (s .pre .2) (suc (a .n .0)) (omega arith))) in
+    let rest = put-on (rows .put-rows .ensures) marks (omega (arith, marks-at (a .sizes .n .0) (a .sizes .darts), rows-written (a .sizes .n .0) (a .sizes .darts) (now (a .rows)) (s .pre .2) (suc (a .sizes .n .0)) (omega arith))) in
     put-on (header .put-header .ensures) rest refl
 
 pub put-record-spec : {M : Type 1} → statement M
@@ -38,9 +38,11 @@ put-record-spec =
     (λ c. search needs)
     (λ c. search needs)
     (λ c. search needs)
+    (λ c. search needs)
     (λ c κs. search needs)
     (λ c κs. search needs)
     (λ c κs. search needs)
+    (λ c. search needs)
     (λ c. search needs)
     (λ c. search needs)
     (λ c κs. search needs)

@@ -3,7 +3,7 @@ use Prim.Native.Nat.{_+_, _*_, _≤_}
 use native.Mathlib.Numerals.{add-one}
 use native.Mathlib.Omega.{arith}
 use borrow.Author.Needs.{needs}
-use Rattle.records.proofs.Reach.{rows-reach}
+use Rattle.taking.proofs.Reach.{rows-reach}
 use Rattle.writing.proofs.record_size.Statement.{statement}
 use Rattle.writing.proofs.record_size.Tie as tie
 

@@ -25,12 +25,12 @@ returns : tie.Need-returns
 returns c =
     let a = c .before .before .before .before .args in
     let of : ℕ → ℕ → ZgRefusal → ZgBase = λ darts h w. record { refusal = w; darts = darts; h = h } in
-    ap (of _ _) (c .accepts .ensures) ∙ sym (ap (λ x. baseFor (rebasedOf (a .darts) (a .h) x)) (c .before .before .answer .given .1))
+    ap (of _ _) (c .accepts .ensures) ∙ sym (ap (λ x. baseFor (rebasedOf (a .darts) (a .h .0) x)) (c .before .before .answer .given .1))
 
 returns-2 : tie.Need-returns-2
 returns-2 c =
     let a = c .before .before .before .before .args in
-    ap (λ v. baseFor (record { verdict = v; darts = a .darts; height = a .h })) (c .refused .ensures) ∙ sym (ap (λ x. baseFor (rebasedOf (a .darts) (a .h) x)) (c .before .before .answer2 .given .1))
+    ap (λ v. baseFor (record { verdict = v; darts = a .darts; height = a .h .0 })) (c .refused .ensures) ∙ sym (ap (λ x. baseFor (rebasedOf (a .darts) (a .h .0) x)) (c .before .before .answer2 .given .1))
 
 pub based-as-spec : {M : Type 1} → statement M
 based-as-spec =

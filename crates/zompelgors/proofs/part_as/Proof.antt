@@ -19,8 +19,11 @@ accepts-requires c κs = search needs
 is-unfolded-requires : tie.Need-is-unfolded-requires
 is-unfolded-requires c κs = search needs
 
+cast-start : tie.Need-cast-start
+cast-start c = search needs
+
 mul-start : tie.Need-mul-start
-mul-start c = let f = c .before .before .before .before .pre (ap verdictOf (c .before .before .enum-told .given .1)) in omega (arith, f)
+mul-start c = let f = c .before .before .before .before .before .pre (ap verdictOf (c .before .before .before .enum-told .given .1)) in omega (arith, f)
 
 enum-known-check : tie.Need-enum-known-check
 enum-known-check c = search needs
@@ -30,14 +33,14 @@ refused-requires c κs = search needs
 
 returns : tie.Need-returns
 returns c =
-    let a = c .before .before .before .before .args in
-    let of : ZgRefusal → ℕ → ZgPart = λ w u. record { refusal = w; unfolded = u; start = a .involution * a .darts; length = a .darts } in
-    ap₂ of (c .before .accepts .ensures) (c .is-unfolded .ensures) ∙ sym (ap (λ x. partFor (verdictOf x) (a .darts) (a .level) (a .involution)) (c .before .before .enum-told .given .1))
+    let a = c .before .before .before .before .before .args in
+    let of : ZgRefusal → ℕ → ZgPart = λ w u. record { refusal = w; unfolded = u; start = a .involution .0 * a .darts; length = a .darts } in
+    ap₂ of (c .before .before .accepts .ensures) (c .before .is-unfolded .ensures) ∙ sym (ap (λ x. partFor (verdictOf x) (a .darts) (a .level .0) (a .involution .0)) (c .before .before .before .enum-told .given .1))
 
 returns-2 : tie.Need-returns-2
 returns-2 c =
     let a = c .before .before .before .before .args in
-    ap (λ v. partFor v (a .darts) (a .level) (a .involution)) (c .refused .ensures ∙ sym (ap verdictOf (c .before .before .check .given .1)))
+    ap (λ v. partFor v (a .darts) (a .level .0) (a .involution .0)) (c .refused .ensures ∙ sym (ap verdictOf (c .before .before .check .given .1)))
 
 pub part-as-spec : {M : Type 1} → statement M
 part-as-spec =
@@ -46,6 +49,7 @@ part-as-spec =
     enum-told
     accepts-requires
     is-unfolded-requires
+    cast-start
     mul-start
     enum-known-check
     refused-requires

@@ -1,7 +1,7 @@
 -- `taken_as` meets its contract. Assumes nothing.
 use mathlib.Core.Path.{sym, ap, _∙_}
 use Prim.Native.Nat.{ℕ}
-use Rattle.records.specs.Answers.{saying, takenOf}
+use Rattle.taking.specs.Answers.{saying, takenOf}
 use Rattle.zompelgors.specs.Flat.{recordFor}
 use Rattle.zompelgors.specs.declared.ZgRefusal.{ZgRefusal}
 use Rattle.zompelgors.specs.declared.ZgRecord.{ZgRecord}
@@ -24,7 +24,7 @@ refused-requires c κs = search needs
 returns : tie.Need-returns
 returns c =
     let of : ℕ → ℕ → ℕ → ZgRefusal → ZgRecord = λ n h darts w. record { refusal = w; n = n; h = h; darts = darts } in
-    ap (of _ _ _) (c .accepts .ensures) ∙ sym (ap (λ x. recordFor (takenOf x)) (c .before .before .answer .given .1))
+    ap (of _ _ _) (c .before .before .accepts .ensures) ∙ sym (ap (λ x. recordFor (takenOf x)) (c .before .before .before .before .answer .given .1))
 
 returns-2 : tie.Need-returns-2
 returns-2 c = ap (λ v. recordFor (saying v 0 0 0)) (c .refused .ensures) ∙ sym (ap (λ x. recordFor (takenOf x)) (c .before .before .answer2 .given .1))

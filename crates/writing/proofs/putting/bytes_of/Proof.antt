@@ -5,8 +5,8 @@ use native.Mathlib.Omega.{arith}
 use lib.ListN.{length, length-set}
 use denote.Ref.{now}
 use borrow.Author.Needs.{needs}
-use Rattle.records.specs.Parts.{Laid}
-use Rattle.records.proofs.Laid.{laid-none}
+use Rattle.taking.specs.Parts.{Laid}
+use Rattle.taking.proofs.Laid.{laid-none}
 use Rattle.writing.specs.Put.{entryByte}
 use Rattle.writing.proofs.Put.{laid-entry}
 use Rattle.writing.proofs.putting.bytes_of.Statement.{statement}

@@ -6,9 +6,9 @@ use lib.ListN.{getD}
 use denote.Ref.{now}
 use borrow.Author.Needs.{needs}
 use Rattle.maps.specs.Write.{inTwoBytes}
-use Rattle.records.specs.Parts.{Laid}
-use Rattle.records.proofs.Laid.{laid-none, laid-on}
-use Rattle.records.proofs.Fields.{length-two}
+use Rattle.taking.specs.Parts.{Laid}
+use Rattle.taking.proofs.Laid.{laid-none, laid-on}
+use Rattle.taking.proofs.Fields.{length-two}
 use Rattle.writing.proofs.putting.put_entries.Statement.{statement}
 use Rattle.writing.proofs.putting.put_entries.Tie as tie
 

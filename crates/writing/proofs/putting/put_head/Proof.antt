@@ -5,7 +5,7 @@ use native.Mathlib.Omega.{arith}
 use lib.ListN.{getD, length-set}
 use denote.Ref.{now}
 use borrow.Author.Needs.{needs}
-use Rattle.records.proofs.Laid.{laid-none, laid-more}
+use Rattle.taking.proofs.Laid.{laid-none, laid-more}
 use Rattle.writing.specs.Put.{headOf}
 use Rattle.writing.proofs.putting.put_head.Statement.{statement}
 use Rattle.writing.proofs.putting.put_head.Tie as tie

@@ -6,7 +6,7 @@ use native.Mathlib.Omega.{arith}
 use lib.ListN.{getD, length-set}
 use borrow.Author.Needs.{needs}
 use Rattle.maps.specs.Write.{inTwoBytes}
-use Rattle.records.proofs.Laid.{laid-none, laid-more}
+use Rattle.taking.proofs.Laid.{laid-none, laid-more}
 use Rattle.writing.proofs.Put.{put-field}
 use Rattle.writing.proofs.putting.put_header.Statement.{statement}
 use Rattle.writing.proofs.putting.put_header.Tie as tie
@@ -15,11 +15,11 @@ returns : tie.Need-returns
 unfolding inTwoBytes
 returns c =
     let s = c .before .before .before .before in
-    let a = s .before .before .before .args in
+    let a = s .before .before .before .before .before .args in
     let head = s .put-head .ensures in
-    let body : List ℕ = a .n .0 ∷ a .h .0 ∷ a .darts % 256 ∷ a .darts / 256 ∷ [] in
-    let one = laid-more 3 (a .n .0) (laid-none (λ (k : ℕ). getD body k 0) 3 (s .put-head .last .1 .1 .0)) refl (omega (arith, head .laid .long)) refl in
-    let two = laid-more 4 (a .h .0) one refl (simp length-set (omega (arith, head .laid .long))) refl in
+    let body : List ℕ = a .sizes .n .0 ∷ a .sizes .h .0 ∷ a .sizes .darts % 256 ∷ a .sizes .darts / 256 ∷ [] in
+    let one = laid-more 3 (a .sizes .n .0) (laid-none (λ (k : ℕ). getD body k 0) 3 (s .put-head .last .1 .1 .0)) refl (omega (arith, head .laid .long)) refl in
+    let two = laid-more 4 (a .sizes .h .0) one refl (simp length-set (omega (arith, head .laid .long))) refl in
     let three = laid-more 5 (c .before .low-byte .result) two refl (simp length-set (omega (arith, head .laid .long))) (c .before .low-byte .ensures) in
     put-field head (record { laid = laid-more 6 (c .high-byte .result) three refl (simp length-set (omega (arith, head .laid .long))) (c .high-byte .ensures) }) refl refl
 

@@ -5,7 +5,7 @@ use native.Mathlib.Omega.{arith}
 use lib.ListN.{getD}
 use denote.Ref.{now}
 use borrow.Author.Needs.{needs}
-use Rattle.records.proofs.Laid.{laid-same}
+use Rattle.taking.proofs.Laid.{laid-same}
 use Rattle.writing.proofs.Put.{put-field}
 use Rattle.writing.proofs.putting.put_marks.Statement.{statement}
 use Rattle.writing.proofs.putting.put_marks.Tie as tie

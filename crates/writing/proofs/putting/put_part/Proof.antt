@@ -1,6 +1,6 @@
 -- `writing::putting::put_part` meets its contract. Assumes nothing.
 use borrow.Author.Needs.{needs}
-use Rattle.records.proofs.Laid.{laid-whole}
+use Rattle.taking.proofs.Laid.{laid-whole}
 use Rattle.writing.proofs.putting.put_part.Statement.{statement}
 use Rattle.writing.proofs.putting.put_part.Tie as tie
 

@@ -2,7 +2,7 @@
 use mathlib.Core.Path.{refl}
 use denote.Ref.{now}
 use borrow.Author.Needs.{needs}
-use Rattle.records.proofs.Fields.{length-two}
+use Rattle.taking.proofs.Fields.{length-two}
 use Rattle.writing.proofs.Put.{put-field}
 use Rattle.writing.proofs.putting.put_row.Statement.{statement}
 use Rattle.writing.proofs.putting.put_row.Tie as tie

@@ -9,9 +9,9 @@ use denote.Ref.{now}
 use borrow.Author.Needs.{needs}
 use Rattle.maps.specs.Write.{rowOf, rowsWritten}
 use Rattle.laws.proofs.Tables.{next-row}
-use Rattle.records.proofs.Laid.{laid-none}
-use Rattle.records.proofs.Fields.{rows-written}
-use Rattle.records.proofs.Reach.{row-ends}
+use Rattle.taking.proofs.Laid.{laid-none}
+use Rattle.taking.proofs.Fields.{rows-written}
+use Rattle.taking.proofs.Reach.{row-ends}
 use Rattle.writing.specs.Put.{Put}
 use Rattle.writing.proofs.Put.{put-on}
 use Rattle.writing.proofs.putting.put_rows.Statement.{statement}
