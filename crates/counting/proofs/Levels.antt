@@ -108,7 +108,7 @@ module _ (n N h : ℕ) (rows lambda delta table : List ℕ) (p : Accepted (ofPar
   }
 
   -- passes every kernel below
-  climb-passes : climbsTo (ofParts n N h rows lambda delta) l ≡ accepted
+  pub climb-passes : climbsTo (ofParts n N h rows lambda delta) l ≡ accepted
   unfolding checkKernels checkPyramid
   climb-passes =
       let marked = check8 n N h (each lambda) (each delta) in

@@ -7,3 +7,5 @@ pub mod Survivors
 pub mod Counted
 pub mod Putting
 pub mod Small
+pub mod Changed
+pub mod Meeting

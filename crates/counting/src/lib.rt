@@ -1,85 +1,84 @@
-// A census: the cells of each dimension of each level, and their alternating sum. Each level is climbed to in the lent table and counted there. Assumes nothing.
+// A census: the cells of each dimension of each level, and their alternating sum. One climb reaches every level in the lent table, and each is counted there. Assumes nothing.
 mod level; // level.rt: one explicit level
 mod slices; // slices.rt: the census in slices
 mod sums; // sums.rt: the alternating sums
 
-use answers::AtLevel;
+use answers::ABSENT;
 use answers::Check;
 use answers::Dim;
+use answers::LEVELS;
 use answers::Level;
+use answers::MOST_ROWS;
+use answers::ROOM;
 use answers::Sizes;
+use climbing::Stretch;
+use kernels::HEADS;
 use level::count_level;
 pub use slices::census_into;
 use sums::sums_of;
 ghost use mathlib.Core.Path.{_≡_};
-ghost use Prim.Native.Nat.{_+_, _≤_, _<_};
+ghost use Prim.Native.Nat.{_+_, _<_};
 ghost use lib.ListN.{set};
 ghost use Rattle.maps.specs.Accepted.{Accepted};
 ghost use Rattle.maps.specs.CheckPyramid.{checkLent, checkLeaves, tableAt};
 ghost use Rattle.maps.specs.Census.{CensusLeaves};
 ghost use Rattle.maps.specs.Folded.{ofParts};
-ghost use Rattle.answers.specs.Pyramid.{given};
+ghost use Rattle.answers.specs.Pyramid.{given, lent};
 ghost use Rattle.answers.specs.Numbers.{verdictOf};
-ghost use Rattle.counting.specs.Counts.{LevelCounted, zeroed, Counted};
+ghost use Rattle.counting.specs.Counts.{zeroed, Counted};
 
 // No count at all.
-fn zeros() -> [[u16; 5]; 33]
+fn zeros() -> [[u16; MOST_ROWS]; LEVELS]
     ensures { λ r. ⌜ r ≡ zeroed ⌝ }
 {
-    [[0u16; 5]; 33]
+    [[0u16; MOST_ROWS]; LEVELS]
 }
 
 // The counts with those of one level.
-fn with_row(counts: [[u16; 5]; 33], l: usize, row: [u16; 5]) -> [[u16; 5]; 33]
-    requires { ⌜ l < 33 ⌝ }
-    ensures { λ r. ⌜ r ≡ set counts l row ⌝ }
+fn with_row(
+    counts: [[u16; MOST_ROWS]; LEVELS],
+    level: Level,
+    row: [u16; MOST_ROWS],
+) -> [[u16; MOST_ROWS]; LEVELS]
+    requires { ⌜ level .0 < 33 ⌝ }
+    ensures { λ r. ⌜ r ≡ set counts (level .0) row ⌝ }
 {
     let mut grown = counts;
+    let l = level.0 as usize;
     grown[l] = row;
     grown
 }
 
-// One level, climbed to in the table from the base and counted there.
-fn count_climbed(
-    n: Dim,
-    darts: u16,
-    h: Level,
-    rows: &[u16],
-    lambda: &[u8],
-    delta: &[u8],
-    level: Level,
-    table: &mut [u16],
-) -> [u16; 5]
-    requires { ⌜ Accepted (given (n .0) darts (h .0) rows lambda delta) (now table) × (level .0 ≤ h .0) ⌝ }
-    ensures counted { λ r. ⌜ LevelCounted (n .0) darts (tableAt (given (n .0) darts (h .0) (rows .entry) (lambda .entry) (delta .entry)) (level .0)) r ⌝ }
-    ensures table_left { λ _. ⌜ now (table .exit) ≡ tableAt (given (n .0) darts (h .0) (rows .entry) (lambda .entry) (delta .entry)) (level .0) ⌝ }
-{
-    let at = AtLevel {
-        sizes: Sizes { n, h, darts },
-        level,
-    };
-    climbing::climb_to(at, rows, lambda, delta, table);
-    count_level(n, darts, table)
-}
-
-// The counts of all levels, from the base up, so that the table is left with level h.
+// The counts of all levels, on one climb from the base up, so that the table is left with level h.
 fn count_levels(
-    n: Dim,
-    darts: u16,
-    h: Level,
+    sizes: Sizes,
     rows: &[u16],
     lambda: &[u8],
     delta: &[u8],
     table: &mut [u16],
-) -> [[u16; 5]; 33]
-    requires { ⌜ Accepted (given (n .0) darts (h .0) rows lambda delta) (now table) ⌝ }
-    ensures counted { λ r. ⌜ Counted (n .0) darts (h .0) (now (rows .entry)) (now (lambda .entry)) (now (delta .entry)) r (h .0 + 1) ⌝ }
-    ensures table_left { λ _. ⌜ now (table .exit) ≡ tableAt (given (n .0) darts (h .0) (rows .entry) (lambda .entry) (delta .entry)) (h .0) ⌝ }
+) -> [[u16; MOST_ROWS]; LEVELS]
+    requires { ⌜ Accepted (lent sizes rows lambda delta) (now table) ⌝ }
+    ensures counted { λ r. ⌜ Counted (sizes .n .0) (sizes .darts) (sizes .h .0) (now (rows .entry)) (now (lambda .entry)) (now (delta .entry)) r (sizes .h .0 + 1) ⌝ }
+    ensures table_left { λ _. ⌜ now (table .exit) ≡ tableAt (lent sizes (rows .entry) (lambda .entry) (delta .entry)) (sizes .h .0) ⌝ }
 {
-    let mut counts = zeros();
-    for l in 0..h.0 + 1 {
-        let row = count_climbed(n, darts, h, rows, lambda, delta, Level(l), table);
-        let grown = with_row(counts, l as usize, row);
+    let mut head = [ABSENT; HEADS];
+    let mut next = [0u16; ROOM];
+    climbing::begin(rows, lambda, &mut head, &mut next, table);
+    let n = sizes.n;
+    let darts = sizes.darts;
+    let first = count_level(n, darts, table);
+    let mut counts = with_row(zeros(), Level(0), first);
+    let top = sizes.h.0;
+    for l in 0..top {
+        let above = Level(l + 1);
+        let stretch = Stretch {
+            sizes,
+            from: Level(l),
+            to: above,
+        };
+        climbing::go_on(stretch, lambda, delta, &head, &next, table);
+        let row = count_level(n, darts, table);
+        let grown = with_row(counts, above, row);
         counts = grown;
     }
     counts
@@ -94,17 +93,18 @@ pub fn census(
     lambda: &[u8],
     delta: &[u8],
     table: &mut [u16],
-    cells: &mut [[u16; 5]; 33],
-    sums: &mut [i32; 33],
+    cells: &mut [[u16; MOST_ROWS]; LEVELS],
+    sums: &mut [i32; LEVELS],
 ) -> Check
     ensures verdict { λ r. ⌜ verdictOf r ≡ checkLent (given (n .0) darts (h .0) (rows .entry) (lambda .entry) (delta .entry)) (now (table .entry)) ⌝ }
     ensures table_left { λ _. ⌜ now (table .exit) ≡ checkLeaves (given (n .0) darts (h .0) (rows .entry) (lambda .entry) (delta .entry)) (now (table .entry)) ⌝ }
     ensures counts { λ _. ⌜ CensusLeaves (given (n .0) darts (h .0) (rows .entry) (lambda .entry) (delta .entry)) (checkLent (given (n .0) darts (h .0) (rows .entry) (lambda .entry) (delta .entry)) (now (table .entry))) (now (cells .entry)) (now (sums .entry)) (now (cells .exit)) (now (sums .exit)) ⌝ }
 {
-    if let Check::Refused(r) = checking::check(Sizes { n, h, darts }, rows, lambda, delta, table) {
+    let sizes = Sizes { n, h, darts };
+    if let Check::Refused(r) = checking::check(sizes, rows, lambda, delta, table) {
         return Check::Refused(r);
     }
-    let counts = count_levels(n, darts, h, rows, lambda, delta, table);
+    let counts = count_levels(sizes, rows, lambda, delta, table);
     let all = sums_of(counts);
     *cells = counts;
     *sums = all;
