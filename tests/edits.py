@@ -89,9 +89,11 @@ def by_claims(name):
 
 
 def by_functions(name):
-    """Of a wrong program: {function or file of laws: [need or law]}; bounds only where nothing else fails."""
-    found = {}
-    for file, _, _, fact, message in errors((LOGS / name / ".log").read_text()):
+    """Of a wrong program: {function or file of laws: [need or law]}, also of functions that need no file of proof; bounds only where nothing else fails."""
+    found, log = {}, (LOGS / name / ".log").read_text()
+    for function, needs in re.findall(r"^fn \S*::(\w+): no proof: .*`search` does not close (.*)$", log, re.M):
+        found[function] = re.findall(r"`([^`]+)`", needs)
+    for file, _, _, fact, message in errors(log):
         where = file.parts[-2] if file.name == "Proof.antt" else file.stem
         if fact and not FOLLOWS.search(message.split("\n")[0]) and fact not in found.setdefault(where, []):
             found[where].append(fact)
