@@ -235,15 +235,16 @@ pub record SmallRelations : Type 0 where
   -- and level 1 is counted, in both dimensions
   pub census-top : (counts : ℕ → ℕ → ℕ) (sums : ℕ → ℤ) → CensusOf one counts sums → (counts 1 0 ≡ 1) × (counts 1 1 ≡ 1) × (sums 1 ≡ pos 0)
   pub census-unused : (counts : ℕ → ℕ → ℕ) (sums : ℕ → ℤ) → CensusOf one counts sums → (counts 0 2 ≡ 0) × (counts 2 0 ≡ 0) × (sums 2 ≡ pos 0)
-  -- the square: vertex {1,2} is marked; that of 0 is left unmarked, since 0 is the lowest of its piece
+  -- the square: vertex {1,2} is marked
   pub marked : Marked square 1 0 1 × Marked square 1 0 2
-  pub left : LeftUnmarked square 1 0 0 × LeftUnmarked square 1 0 7
-  -- so a mark row that the job leaves has 0 at 1, and 255 at 0
-  pub marks-left : (out : List ℕ) → CellsMarked 1 8 (corners .rows) 0 out → (each out 1 ≡ 0) × (each out 0 ≡ 255)
   -- the segment's end is an open one: it has one part
   pub open-end : WouldBeMarked (base one) 1 0 0 → ⊥
   -- a piece with an open end has no cell left unmarked for it, though its lowest dart is at one that is marked
   pub open-piece : Marked row-of-two 1 0 0
+  -- on the square that of 0 is left unmarked, since 0 is the lowest of its piece
+  pub left : LeftUnmarked square 1 0 0 × LeftUnmarked square 1 0 7
+  -- so a mark row that the job leaves has 0 at 1, and 255 at 0
+  pub marks-left : (out : List ℕ) → CellsMarked 1 8 (corners .rows) 0 out → (each out 1 ≡ 0) × (each out 0 ≡ 255)
   -- M1 taken back: the first of the rows answered is the edge row
   pub taken-back : (edge vertex : List ℕ) → Exports partnerBase [] [] accepted accepted edge vertex → each edge 0 ≡ 1
   -- a base of one dart passes the tests of the way back, and nothing but 22 may be answered then
@@ -268,13 +269,13 @@ small-relations = record {
     marked-one,
     (would 2 (lit< tt), λ u. not-lowest 2 (u .lowest) (lit< tt) (lit< tt) (lit< tt) (u .in-cell) (u .least 0 (further 1 0 (further 2 1 here (lit≤ tt) refl) (lit≤ tt) refl))),
   );
+  open-end = λ w. one-part (base one) 0 refl (w .two);
+  open-piece = (two-marked row-of-two 0 refl (λ q. let z : _≡_ {A = ℕ} 1 0 = q in omega arith), λ u. one-part row-of-two 2 refl (u .every 2 (further 0 0 here (lit≤ tt) refl) .two));
   left = (left-at 0 (lit< tt) itself, left-at 7 (lit< tt) (onward 7 1 itself (lit≤ tt) (λ q. omega arith)));
   marks-left = λ out c. (
     elim (c .mark 1 (lit< tt)) [ inl w ↦ w .2 | inr w ↦ absurd (w .0 (refl, marked-one)) ],
     elim (c .mark 0 (lit< tt)) [ inl w ↦ absurd (w .1 .1 (left-at 0 (lit< tt) itself)) | inr w ↦ w .1 ],
   );
-  open-end = λ w. one-part (base one) 0 refl (w .two);
-  open-piece = (two-marked row-of-two 0 refl (λ q. let z : _≡_ {A = ℕ} 1 0 = q in omega arith), λ u. one-part row-of-two 2 refl (u .every 2 (further 0 0 here (lit≤ tt) refl) .two));
   taken-back = λ edge vertex e. edge-first (e .0) edge vertex (e .1);
   way-back = (refl, only-22);
 }
