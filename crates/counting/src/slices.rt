@@ -1,7 +1,9 @@
 // The census in slices, for callers that lend no arrays: row l of the counts stands at 5l. 330 bytes of counts and 132 of sums are kept besides. Assumes nothing.
 use answers::Check;
 use answers::Dim;
+use answers::LEVELS;
 use answers::Level;
+use answers::MOST_ROWS;
 use answers::Sizes;
 ghost use mathlib.Core.Path.{_≡_};
 ghost use Prim.Native.Nat.{_≤_, _<_};
@@ -11,32 +13,37 @@ ghost use Rattle.answers.specs.Pyramid.{given};
 ghost use Rattle.answers.specs.Numbers.{verdictOf};
 ghost use Rattle.counting.specs.Slices.{RowPut, CellsPut, Fitting};
 
+// The counts of all levels.
+const COUNTS: usize = LEVELS * MOST_ROWS;
+
 // One row of counts, to its five places.
-fn put_row(row: [u16; 5], l: usize, cells: &mut [u16])
-    requires { ⌜ (l < 33) × (length (now cells) ≡ 165) ⌝ }
-    ensures { λ _. ⌜ RowPut row l (now (cells .entry)) (now (cells .exit)) ⌝ }
+fn put_row(row: [u16; MOST_ROWS], level: Level, cells: &mut [u16])
+    requires { ⌜ (level .0 < 33) × (length (now cells) ≡ 165) ⌝ }
+    ensures { λ _. ⌜ RowPut row (level .0) (now (cells .entry)) (now (cells .exit)) ⌝ }
 {
-    for i in 0..5usize {
-        cells[5 * l + i] = row[i];
+    let l = level.0 as usize;
+    for i in 0..MOST_ROWS {
+        cells[MOST_ROWS * l + i] = row[i];
     }
 }
 
 // All counts, row after row.
-fn put_cells(counts: [[u16; 5]; 33], cells: &mut [u16])
+fn put_cells(counts: [[u16; MOST_ROWS]; LEVELS], cells: &mut [u16])
     requires { ⌜ length (now cells) ≡ 165 ⌝ }
     ensures { λ _. ⌜ CellsPut counts (now (cells .exit)) ⌝ }
 {
-    for l in 0..33usize {
-        put_row(counts[l], l, cells);
+    for l in 0..LEVELS {
+        let number = l as u8;
+        put_row(counts[l], Level(number), cells);
     }
 }
 
 // All sums.
-fn put_sums(all: [i32; 33], sums: &mut [i32])
+fn put_sums(all: [i32; LEVELS], sums: &mut [i32])
     requires { ⌜ Fitting all × (length (now sums) ≡ 33) ⌝ }
     ensures { λ _. ⌜ now (sums .exit) ≡ all ⌝ }
 {
-    for l in 0..33usize {
+    for l in 0..LEVELS {
         sums[l] = all[l];
     }
 }
@@ -57,11 +64,11 @@ pub fn census_into(
     ensures table_left { λ _. ⌜ now (table .exit) ≡ censusTable (given (n .0) darts (h .0) (rows .entry) (lambda .entry) (delta .entry)) (now (table .entry)) (now (cells .entry)) (now (sums .entry)) ⌝ }
     ensures counts_left { λ _. ⌜ CensusPutLeaves (given (n .0) darts (h .0) (rows .entry) (lambda .entry) (delta .entry)) (censusLent (given (n .0) darts (h .0) (rows .entry) (lambda .entry) (delta .entry)) (now (table .entry)) (now (cells .entry)) (now (sums .entry))) (now (cells .entry)) (now (sums .entry)) (now (cells .exit)) (now (sums .exit)) ⌝ }
 {
-    if !answers::both(cells.len() == 165, sums.len() == 33) {
+    if !answers::both(cells.len() == COUNTS, sums.len() == LEVELS) {
         return answers::lent(Sizes { n, h, darts }, false);
     }
     let mut counts = crate::zeros();
-    let mut all = [0i32; 33];
+    let mut all = [0i32; LEVELS];
     if let Check::Refused(r) = crate::census(
         n,
         darts,

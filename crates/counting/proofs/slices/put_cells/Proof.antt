@@ -25,6 +25,9 @@ mul-put-row c = search needs
 array-copy-out-put-row : tie.Need-array-copy-out-put-row Inv-loop μ-loop
 array-copy-out-put-row c = c .loop-test .taken
 
+cast-number : tie.Need-cast-number Inv-loop μ-loop
+cast-number c = search needs
+
 put-row-requires : tie.Need-put-row-requires Inv-loop μ-loop
 put-row-requires c κs = (c .before .before .loop-test .taken, c .before .before .before .loop .inv .1)
 
@@ -57,6 +60,7 @@ put-cells-spec =
     Inv-loop
     μ-loop
     loop-holds
+    cast-number
     mul-put-row
     array-copy-out-put-row
     put-row-requires

@@ -12,21 +12,24 @@ use Rattle.counting.proofs.slices.put_row.Statement.{statement}
 use Rattle.counting.proofs.slices.put_row.Tie as tie
 
 abbrev Inv-loop : tie.InvT-loop
-Inv-loop l cells₀ row i₀ cells i =
+Inv-loop cells₀ row l i₀ cells i =
     (i ≤ 5) × (length cells ≡ length cells₀) × ((x : ℕ) → x < 5 * l → getD cells x 0 ≡ getD cells₀ x 0) × ((x : ℕ) → x < i → countIn cells l x ≡ each row x)
 
 abbrev μ-loop : tie.MeasureT-loop
-μ-loop l cells₀ row i₀ cells i = 5 - i
+μ-loop cells₀ row l i₀ cells i = 5 - i
 
 -- where the function began
 abbrev start : tie.At-loop Inv-loop μ-loop → tie.Start Inv-loop μ-loop
-start c = c .before
+start c = c .before .before
 
 -- the place lies in the slice
-room : (c : tie.In-loop Inv-loop μ-loop) → 5 * start (c .before) .args .l + c .before .loop .i < length (c .before .loop .cells)
+room : (c : tie.In-loop Inv-loop μ-loop) → 5 * start (c .before) .args .level .0 + c .before .loop .i < length (c .before .loop .cells)
 room c =
     let s = start (c .before) in
     omega (arith, s .pre .0, s .pre .1, c .before .loop .inv .1, c .loop-test .taken)
+
+cast-l : tie.Need-cast-l Inv-loop μ-loop
+cast-l c = search needs
 
 loop-holds : tie.Need-loop-holds Inv-loop μ-loop
 loop-holds c = (zero-le, refl, λ x l. refl, λ x l. absurd (omega arith))
@@ -62,9 +65,9 @@ loop-again c =
     let row = a .t1 in
     let count = each row (l .i) in (
       omega arith,
-      length-set (l .cells) (5 * a .l + l .i) count ∙ l .inv .1,
-      row-put-before (l .cells) (now (a .cells)) (a .l) (l .i) count (l .inv .2),
-      row-put-more (l .cells) row (a .l) (l .i) count (room c) (l .inv .3) refl,
+      length-set (l .cells) (5 * a .level .0 + l .i) count ∙ l .inv .1,
+      row-put-before (l .cells) (now (a .cells)) (a .level .0) (l .i) count (l .inv .2),
+      row-put-more (l .cells) row (a .level .0) (l .i) count (room c) (l .inv .3) refl,
     )
 
 same-length : tie.Need-same-length Inv-loop μ-loop
@@ -79,6 +82,7 @@ put-row-spec =
     (tie.spec
     Inv-loop
     μ-loop
+    cast-l
     loop-holds
     mul-cells
     array-read-cells

@@ -25,14 +25,14 @@ start c = c .before .before
 plus : (c : tie.After-count-at3) → (c .before .before .count-at .result + c .before .count-at2 .result ≤ 8192) × (c .before .before .count-at .result + c .before .count-at2 .result + c .count-at3 .result ≤ 12288)
 plus c =
     let s = start (c .before) in
-    let f = few (s .args .counts) (s .args .l) (s .pre .0) (s .pre .1) in
+    let f = few (s .args .counts) (s .args .level .0) (s .pre .0) (s .pre .1) in
     (omega (arith, c .before .before .count-at .ensures, c .before .count-at2 .ensures, f .0, f .2), omega (arith, c .before .before .count-at .ensures, c .before .count-at2 .ensures, c .count-at3 .ensures, f .0, f .2, f .4))
 
 -- and those with minus
 minus : (c : tie.After-count-at5) → c .before .count-at4 .result + c .count-at5 .result ≤ 8192
 minus c =
     let s = start (c .before .before .before) in
-    let f = few (s .args .counts) (s .args .l) (s .pre .0) (s .pre .1) in
+    let f = few (s .args .counts) (s .args .level .0) (s .pre .0) (s .pre .1) in
     omega (arith, c .before .count-at4 .ensures, c .count-at5 .ensures, f .1, f .3)
 
 count-at-requires : tie.Need-count-at-requires
@@ -44,7 +44,7 @@ count-at-requires-2 c κs = (c .before .pre .1, omega arith)
 add-plus : tie.Need-add-plus
 add-plus c =
     let s = start c in
-    let f = few (s .args .counts) (s .args .l) (s .pre .0) (s .pre .1) in
+    let f = few (s .args .counts) (s .args .level .0) (s .pre .0) (s .pre .1) in
     omega (arith, c .before .count-at .ensures, c .count-at2 .ensures, f .0, f .2)
 
 count-at-requires-3 : tie.Need-count-at-requires-3
@@ -81,9 +81,9 @@ returns c =
     let g = three .count-at3 .ensures in
     let h = five .before .count-at4 .ensures in
     let k = five .count-at5 .ensures in
-    let counts = countAt (s .args .counts) (s .args .l) in
+    let counts = countAt (s .args .counts) (s .args .level .0) in
     let is : c .difference .result ≡ alternating counts 5 = c .difference .ensures ∙ (λ x. pos (e x + f x + g x) -ℤ pos (h x + k x)) ∙ sym (alternating-five counts) in
-    toZ-ofZ w32 (c .difference .result) (rw is (alternating-fits counts (λ i li. s .pre .0 .few (s .args .l) i (s .pre .1) li))) ∙ is
+    toZ-ofZ w32 (c .difference .result) (rw is (alternating-fits counts (λ i li. s .pre .0 .few (s .args .level .0) i (s .pre .1) li))) ∙ is
 
 pub sum-at-spec : {M : Type 1} → statement M
 sum-at-spec =

@@ -21,6 +21,9 @@ abbrev μ-loop : tie.MeasureT-loop
 loop-holds : tie.Need-loop-holds Inv-loop μ-loop
 loop-holds c = (zero-le, refl, λ x l. absurd (omega arith))
 
+cast-number : tie.Need-cast-number Inv-loop μ-loop
+cast-number c = search needs
+
 sum-at-requires : tie.Need-sum-at-requires Inv-loop μ-loop
 sum-at-requires c κs = (c .before .before .pre, c .loop-test .taken)
 
@@ -56,6 +59,7 @@ sums-of-spec =
     Inv-loop
     μ-loop
     loop-holds
+    cast-number
     sum-at-requires
     mul-sums
     array-set-from-sums
