@@ -1,3 +1,4 @@
+mod Gone
 pub mod Walking
 pub mod Filled
 pub mod Unfolds

@@ -6,7 +6,6 @@ use super::later;
 use answers::ABSENT;
 use answers::Dim;
 use answers::Level;
-use answers::Mark;
 use answers::Onward;
 use answers::Question;
 use answers::Refusal;
@@ -63,9 +62,10 @@ fn onward(
     let mut t = involution;
     let mut from = met as usize;
     let mut count: u32 = 1;
-    let mut largest = lambda[from] as usize;
+    let first = answers::lambda_at(lambda, from);
+    let mut largest = first.0 as usize;
     loop {
-        let mark = Mark(delta[from]);
+        let mark = answers::delta_at(delta, from);
         let across = answers::row_across(mark, t);
         let Onward::By(row) = across else {
             return Rest::Stopped(Stop::NoPass(t, from as u16));
@@ -80,15 +80,15 @@ fn onward(
         }
         count += 1;
         let to = e as usize;
-        let own = lambda[to];
-        if level.0 <= own {
+        let own = answers::lambda_at(lambda, to);
+        if !answers::is_gone(own, level) {
             return Rest::Ended(Link {
                 dart: e,
                 count,
                 since: Level((largest + 1) as u8),
             });
         }
-        largest = larger(largest, own as usize);
+        largest = larger(largest, own.0 as usize);
         from = to;
     }
 }
@@ -129,7 +129,7 @@ pub fn fill(
     'rows: for i in 0..n.0 + 1 {
         for d in 0..darts {
             let place = i as usize * darts as usize + d as usize;
-            if lambda[d as usize] < level.0 {
+            if answers::is_gone(answers::lambda_at(lambda, d as usize), level) {
                 table[place] = ABSENT;
             } else {
                 let e = rows[place];
@@ -137,7 +137,7 @@ pub fn fill(
                     stop = Stop::Strays(Dim(i), d);
                     break 'rows;
                 }
-                if level.0 <= lambda[e as usize] {
+                if !answers::is_gone(answers::lambda_at(lambda, e as usize), level) {
                     table[place] = e;
                     total += 1;
                 } else {

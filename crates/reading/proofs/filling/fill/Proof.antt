@@ -7,10 +7,12 @@ use lib.ListN.{length}
 use denote.Ref.{now}
 use Rattle.maps.specs.Table.{entry}
 use borrow.Author.Needs.{needs}
+use borrow.Author.Tests.{not-true, not-false}
 use Rattle.laws.proofs.Tables.{in-table, table-size}
 use Rattle.answers.specs.declared.Level.{Level}
 use Rattle.answers.specs.Pyramid.{pyramid, lent}
 use Rattle.reading.specs.declared.filling.Stop.the-variants.{Nowhere}
+use Rattle.reading.proofs.Gone.{off-level, on-level}
 use Rattle.reading.proofs.Walking.{Next, next-first, strays, arrives, arrived}
 use Rattle.reading.proofs.Filled.{Filled, filled-none, filled-row, filled-all, filled-absent, filled-end, filled-missed}
 use Rattle.reading.proofs.filling.fill.Statement.{statement}
@@ -84,11 +86,8 @@ cast-place-3 c = search needs
 add-place : tie.Need-add-place Inv-loop μ-loop Inv-rows μ-rows
 add-place c = omega (arith, place c)
 
-cast-if1 : tie.Need-cast-if1 Inv-loop μ-loop Inv-rows μ-rows
-cast-if1 c = search needs
-
-shared-slice-read-if1 : tie.Need-shared-slice-read-if1 Inv-loop μ-loop Inv-rows μ-rows
-shared-slice-read-if1 c = search needs
+lambda-at-requires : tie.Need-lambda-at-requires Inv-loop μ-loop Inv-rows μ-rows
+lambda-at-requires c κs = search needs
 
 mul-table : tie.Need-mul-table Inv-loop μ-loop Inv-rows μ-rows
 mul-table c = omega (arith, place (c .before .before .before))
@@ -102,11 +101,8 @@ mul-e c = omega (arith, place (c .before .before .before))
 shared-slice-read-e : tie.Need-shared-slice-read-e Inv-loop μ-loop Inv-rows μ-rows
 shared-slice-read-e c = omega (arith, place (c .before .before .before .before))
 
-cast-if3 : tie.Need-cast-if3 Inv-loop μ-loop Inv-rows μ-rows
-cast-if3 c = search needs
-
-shared-slice-read-if3 : tie.Need-shared-slice-read-if3 Inv-loop μ-loop Inv-rows μ-rows
-shared-slice-read-if3 c = search needs
+lambda-at-requires-2 : tie.Need-lambda-at-requires-2 Inv-loop μ-loop Inv-rows μ-rows
+lambda-at-requires-2 c κs = search needs
 
 mul-table-2 : tie.Need-mul-table-2 Inv-loop μ-loop Inv-rows μ-rows
 mul-table-2 c = omega (arith, place (turn (c .before .before .before)))
@@ -120,7 +116,7 @@ add-total c = omega (arith, place (turn (c .before .before .before)))
 onward-requires : tie.Need-onward-requires Inv-loop μ-loop Inv-rows μ-rows
 onward-requires c κs =
     let t = turn (c .before .before .before) in
-    (start t .pre .0, record { row = place t .0; start = t .loop-test .taken; read = refl; dart = c .before .before .before .if2 .left; gone = c .if3 .left })
+    (start t .pre .0, record { row = place t .0; start = t .loop-test .taken; read = refl; dart = c .before .before .before .if2 .left; gone = off-level (start t .args .level .0) (c .before .before .lambda-at2 .ensures) (c .before .is-gone2 .ensures) (not-false (c .before .is-gone2 .result) (c .if3 .left)) })
 
 enum-known-end : tie.Need-enum-known-end Inv-loop μ-loop Inv-rows μ-rows
 enum-known-end c = search needs
@@ -155,14 +151,15 @@ loop-again c =
     let a = start t .args in
     let p = start t .pre .0 in
     let v = t .before .loop .inv in
-    let e = entry (a .sizes .darts) (now (a .rows)) (t .before .before .before .rows .i) (t .before .loop .d) in (
+    let e = entry (a .sizes .darts) (now (a .rows)) (t .before .before .before .rows .i) (t .before .loop .d) in
+    let on = on-level (a .level .0) (c .before .before .lambda-at .ensures) (c .before .is-gone .ensures) in (
       omega arith,
       v .1,
       ⊎-elim
-          (λ w. filled-absent (v .2) (place t .0) (t .loop-test .taken) (w .0 .taken) (w .1) (w .2) (ap number (w .3)))
+          (λ w. filled-absent (v .2) (place t .0) (t .loop-test .taken) (off-level (a .level .0) (c .before .before .lambda-at .ensures) (c .before .is-gone .ensures) (w .0 .taken)) (w .1) (w .2) (ap number (w .3)))
           (⊎-elim
-          (λ w. filled-end (v .2) (place t .0) (t .loop-test .taken) (w .0 .left) (arrives (first t) refl (w .2 .left) (p .allowed e (w .2 .left)) (w .5 .taken)) (omega arith) (arrived (first t) refl (w .5 .taken)) (w .6) (w .7) (ap number (w .8) ∙ omega arith))
-          (λ w. let f = rw (w .8 .given .1) at (w .6 .ensures) in filled-end (v .2) (place t .0) (t .loop-test .taken) (w .0 .left) (f .is) (omega (arith, f .few, p .lent .darts)) (f .stands) (w .12) (w .13) (ap number (w .14) ∙ w .11 .ensures)))
+          (λ w. filled-end (v .2) (place t .0) (t .loop-test .taken) (on (w .0 .left)) (arrives (first t) refl (w .2 .left) (p .allowed e (w .2 .left)) (on-level (a .level .0) (w .3 .ensures) (w .4 .ensures) (not-true (w .4 .result) (w .5 .taken)))) (omega arith) (arrived (first t) refl (on-level (a .level .0) (w .3 .ensures) (w .4 .ensures) (not-true (w .4 .result) (w .5 .taken)))) (w .6) (w .7) (ap number (w .8) ∙ omega arith))
+          (λ w. let f = rw (w .8 .given .1) at (w .6 .ensures) in filled-end (v .2) (place t .0) (t .loop-test .taken) (on (w .0 .left)) (f .is) (omega (arith, f .few, p .lent .darts)) (f .stands) (w .12) (w .13) (ap number (w .14) ∙ w .11 .ensures)))
           (c .if1 .came),
       v .3,
     )
@@ -188,7 +185,7 @@ same-length-2 c = search needs
 returns-2 : tie.Need-returns-2 Inv-loop μ-loop Inv-rows μ-rows
 returns-2 c =
     let t = c .before .before .before .before .before in
-    filled-missed (t .before .loop .inv .2) (place t .0) (t .loop-test .taken) (c .before .before .if1 .left) (strays (first t) refl (c .if2 .taken)) refl
+    filled-missed (t .before .loop .inv .2) (place t .0) (t .loop-test .taken) (on-level (start t .args .level .0) (c .before .before .before .before .lambda-at .ensures) (c .before .before .before .is-gone .ensures) (c .before .before .if1 .left)) (strays (first t) refl (c .if2 .taken)) refl
 
 same-length-3 : tie.Need-same-length-3 Inv-loop μ-loop Inv-rows μ-rows
 same-length-3 c = search needs
@@ -196,8 +193,9 @@ same-length-3 c = search needs
 returns-3 : tie.Need-returns-3 Inv-loop μ-loop Inv-rows μ-rows
 returns-3 c =
     let t = turn (c .before .before .before .before .before .before .before) in
+    let g = c .before .before .before .before .before .before .before .before .before in
     let f = rw (c .before .why .given .1) at (c .before .before .before .onward .ensures) in
-    filled-missed (t .before .loop .inv .2) (place t .0) (t .loop-test .taken) (c .before .before .before .before .before .before .before .before .before .if1 .left) (f .is) (f .said)
+    filled-missed (t .before .loop .inv .2) (place t .0) (t .loop-test .taken) (on-level (start t .args .level .0) (g .before .before .lambda-at .ensures) (g .before .is-gone .ensures) (g .if1 .left)) (f .is) (f .said)
 
 pub fill-spec : {M : Type 1} → statement M
 fill-spec =
@@ -215,14 +213,16 @@ fill-spec =
     mul-place
     cast-place-3
     add-place
-    cast-if1
-    shared-slice-read-if1
+    (λ c. search needs)
+    lambda-at-requires
+    (λ c κs. search needs)
     mul-table
     slice-write-table
     mul-e
     shared-slice-read-e
-    cast-if3
-    shared-slice-read-if3
+    (λ c. search needs)
+    lambda-at-requires-2
+    (λ c κs. search needs)
     mul-table-2
     slice-write-table-2
     add-total

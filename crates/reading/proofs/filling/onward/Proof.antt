@@ -4,6 +4,7 @@ use Prim.Native.Nat.{ℕ, _+_, _-_, _*_, _<_}
 use native.Mathlib.Omega.{arith}
 use denote.Ref.{now}
 use borrow.Author.Needs.{needs}
+use borrow.Author.Tests.{not-true, not-false}
 use Rattle.maps.specs.Table.{each}
 use Rattle.answers.specs.declared.Onward.the-variants.{By}
 use Rattle.answers.specs.declared.Dim.{Dim}
@@ -12,6 +13,7 @@ use Rattle.answers.specs.Marked.{Goes}
 use Rattle.answers.specs.Pyramid.{pyramid, lent}
 use Rattle.answers.proofs.Marked.{goes-told}
 use Rattle.reading.specs.Walks.{Allowed, Meets}
+use Rattle.reading.proofs.Gone.{off-level, on-level}
 use Rattle.reading.proofs.Walking.{entry-fits, Next, strays, arrives, arrived, Met, met-first, met-mark, met-no-pass, met-long, met-passes}
 use Rattle.reading.proofs.filling.onward.Statement.{statement}
 use Rattle.reading.proofs.filling.onward.Tie as tie
@@ -26,7 +28,7 @@ abbrev μ-loop : tie.MeasureT-loop
 
 -- where the function starts, from the loop
 abbrev start : tie.At-loop Inv-loop μ-loop → tie.Start Inv-loop μ-loop
-start c = c .before .before .before .before .before .before .before
+start c = c .before .before .before .before .before .before .before .before
 
 -- the dart met
 met-here : (c : tie.At-loop Inv-loop μ-loop) → let a = start c .args in Met (lent (a .sizes) (a .rows) (a .lambda) (a .delta)) (a .asked .level .0) (a .asked .involution .0) (a .asked .dart) (c .loop .t .0) (c .loop .from) (c .loop .count) (c .loop .largest + 1)
@@ -34,7 +36,7 @@ met-here c = let a = start c .args in c .loop .inv .1 (a .sizes .n) (a .sizes .h
 
 -- how the walk goes on
 goes : (c : tie.After-across Inv-loop μ-loop) → let b = c .before .before .before .before in Goes (each (now (start b .args .delta)) (b .loop .from)) (b .loop .t .0) (By (c .across .given .0 .0))
-goes c = let b = c .before .before .before .before in goes-told (each (now (start b .args .delta)) (b .loop .from)) (b .loop .t .0) (c .before .before .row-across .ensures) (c .across .given .1)
+goes c = let b = c .before .before .before .before in goes-told (each (now (start b .args .delta)) (b .loop .from)) (b .loop .t .0) (rw (c .before .before .before .delta-at .ensures) at (c .before .before .row-across .ensures)) (c .across .given .1)
 
 -- where the loop begins a turn, from where the row to go on by is known and one more entry may be read
 abbrev turn : tie.Else1 Inv-loop μ-loop → tie.At-loop Inv-loop μ-loop
@@ -62,20 +64,20 @@ mul-most c = omega (arith, c .before .before .before .pre .0 .lent .darts)
 add-most : tie.Need-add-most Inv-loop μ-loop
 add-most c = omega (arith, c .before .before .before .pre .0 .lent .darts)
 
-shared-slice-read-largest : tie.Need-shared-slice-read-largest Inv-loop μ-loop
-shared-slice-read-largest c = let p = c .before .before .before .before .before .before .pre in omega (arith, p .1 .dart, p .0 .lent .lambda-length)
+lambda-at-requires : tie.Need-lambda-at-requires Inv-loop μ-loop
+lambda-at-requires c κs = let p = c .before .before .before .before .before .pre in omega (arith, p .1 .dart, p .0 .lent .lambda-length)
 
 cast-largest : tie.Need-cast-largest Inv-loop μ-loop
 cast-largest c = search needs
 
 loop-holds : tie.Need-loop-holds Inv-loop μ-loop
-loop-holds c = (c .before .before .before .before .before .before .pre .1 .gone, λ n h p m. met-first m)
+loop-holds c = let e = c .before .lambda-at .ensures in (rw e (c .before .before .before .before .before .before .before .pre .1 .gone), λ n h p m. rw e (met-first m))
 
-shared-slice-read-own : tie.Need-shared-slice-read-own Inv-loop μ-loop
-shared-slice-read-own c = omega (arith, met-here (c .before) .meets .dart, start (c .before) .pre .0 .lent .delta-length)
+delta-at-requires : tie.Need-delta-at-requires Inv-loop μ-loop
+delta-at-requires c κs = omega (arith, met-here c .meets .dart, start c .pre .0 .lent .delta-length)
 
 row-across-requires : tie.Need-row-across-requires Inv-loop μ-loop
-row-across-requires c κs = met-mark (start (c .before) .pre .0) (met-here (c .before))
+row-across-requires c κs = rw (c .delta-at .ensures) (met-mark (start (c .before) .pre .0) (met-here (c .before)))
 
 enum-known-across : tie.Need-enum-known-across Inv-loop μ-loop
 enum-known-across c = search needs
@@ -83,13 +85,10 @@ enum-known-across c = search needs
 enum-told : tie.Need-enum-told Inv-loop μ-loop
 enum-told c = search needs
 
-cast-t27 : tie.Need-cast-t27 Inv-loop μ-loop
-cast-t27 c = omega (arith, met-here (c .before .before .before .before) .meets .dart)
-
 returns : tie.Need-returns Inv-loop μ-loop
 returns c =
     let b = c .before .before .before .before in
-    record { number = 14; row = b .loop .t .0; dart = b .loop .from; is = met-no-pass (start b .pre .0) (met-here b) (goes-told (each (now (start b .args .delta)) (b .loop .from)) (b .loop .t .0) (c .before .before .row-across .ensures) (c .enum-told .given .1)); said = refl }
+    record { number = 14; row = b .loop .t .0; dart = b .loop .from; is = met-no-pass (start b .pre .0) (met-here b) (goes-told (each (now (start b .args .delta)) (b .loop .from)) (b .loop .t .0) (rw (c .before .before .before .delta-at .ensures) at (c .before .before .row-across .ensures)) (c .enum-told .given .1)); said = refl }
 
 returns-2 : tie.Need-returns-2 Inv-loop μ-loop
 returns-2 c =
@@ -103,9 +102,6 @@ cast-at c = omega (arith, next-here c .dart)
 at-requires : tie.Need-at-requires Inv-loop μ-loop
 at-requires c κs = entry-fits (start (turn c) .pre .0 .lent) (next-here c .row) (next-here c .dart)
 
-cast-t32 : tie.Need-cast-t32 Inv-loop μ-loop
-cast-t32 c = cast-at (c .before .before)
-
 returns-3 : tie.Need-returns-3 Inv-loop μ-loop
 returns-3 c =
     let b = turn (c .before .before) in
@@ -117,44 +113,43 @@ add-count c = omega (arith, next-here (c .before .before) .few)
 cast-to : tie.Need-cast-to Inv-loop μ-loop
 cast-to c = search needs
 
-shared-slice-read-own-2 : tie.Need-shared-slice-read-own-2 Inv-loop μ-loop
-shared-slice-read-own-2 c = omega (arith, c .before .if2 .left, start (turn (c .before .before .before)) .pre .0 .lent .lambda-length)
-
-add-t35 : tie.Need-add-t35 Inv-loop μ-loop
-add-t35 c = omega (arith, turn (c .before .before .before .before .before) .loop .inv .0)
-
-cast-t36 : tie.Need-cast-t36 Inv-loop μ-loop
-cast-t36 c = omega (arith, turn (c .before .before .before .before .before) .loop .inv .0)
+lambda-at-requires-2 : tie.Need-lambda-at-requires-2 Inv-loop μ-loop
+lambda-at-requires-2 c κs = omega (arith, c .if2 .left, start (turn (c .before .before)) .pre .0 .lent .lambda-length)
 
 returns-4 : tie.Need-returns-4 Inv-loop μ-loop
 returns-4 c =
     let x = next-here (c .before .before .before .before .before) in
     let at = c .before .before .before .before .at in
     let e = c .before .before .before .if2 .left in
+    let on = on-level (start (turn (c .before .before .before .before .before)) .args .asked .level .0) (c .before .before .lambda-at2 .ensures) (c .before .is-gone .ensures) (not-true (c .before .is-gone .result) (c .if3 .taken)) in
     record {
       row = row (c .before .before .before .before .before);
-      is = arrives x (at .ensures) e (start (turn (c .before .before .before .before .before)) .pre .0 .allowed (at .result) e) (c .if3 .taken);
+      is = arrives x (at .ensures) e (start (turn (c .before .before .before .before .before)) .pre .0 .allowed (at .result) e) on;
       few = omega (arith, x .few);
-      stands = arrived x (at .ensures) (c .if3 .taken);
+      stands = arrived x (at .ensures) on;
     }
 
 cast-larger : tie.Need-cast-larger Inv-loop μ-loop
-cast-larger c = omega (arith, c .if3 .left)
+cast-larger c = search needs
 
 larger-requires : tie.Need-larger-requires Inv-loop μ-loop
 larger-requires c κs = search needs
 
 loop-less : tie.Need-loop-less Inv-loop μ-loop
-loop-less c = omega (arith, next-here (c .before .before .before .before .before .before) .few)
+loop-less c = omega (arith, next-here (c .before .before .before .before .before .before .before) .few)
 
 loop-again : tie.Need-loop-again Inv-loop μ-loop
-loop-again c = (
-  omega (arith, c .larger .ensures, c .before .if3 .left, turn (c .before .before .before .before .before .before) .loop .inv .0),
-  λ n h p m.
-      let x = next (c .before .before .before .before .before .before) n h p m in
-      let b = turn (c .before .before .before .before .before .before) in
-      record { source = b .loop .from; before = b .loop .count; so-far = b .loop .largest + 1; next = x; reads = refl; meets = record { row = x .row; start = x .dart; read = c .before .before .before .before .before .at .ensures; dart = c .before .before .before .before .if2 .left; gone = c .before .if3 .left }; raise = omega (arith, c .larger .ensures) },
-)
+loop-again c =
+    let e : tie.Else3 Inv-loop μ-loop = c .before .before in
+    let own = e .before .before .lambda-at2 in
+    let b = turn (e .before .before .before .before .before) in
+    let gone = off-level (start b .args .asked .level .0) (own .ensures) (e .before .is-gone .ensures) (not-false (e .before .is-gone .result) (e .if3 .left)) in
+    let read = e .before .before .before .before .at in (
+      omega (arith, c .larger .ensures, own .ensures, gone, b .loop .inv .0),
+      λ n h p m.
+          let x = next (e .before .before .before .before .before) n h p m in
+          record { source = b .loop .from; before = b .loop .count; so-far = b .loop .largest + 1; next = x; reads = refl; meets = record { row = x .row; start = x .dart; read = read .ensures; dart = e .before .before .before .if2 .left; gone = gone }; raise = omega (arith, c .larger .ensures, own .ensures) },
+    )
 
 pub onward-spec : {M : Type 1} → statement M
 onward-spec =
@@ -165,25 +160,26 @@ onward-spec =
     cast-most
     mul-most
     add-most
-    shared-slice-read-largest
+    lambda-at-requires
     cast-largest
     loop-holds
-    shared-slice-read-own
+    delta-at-requires
     row-across-requires
     enum-known-across
     enum-told
-    cast-t27
+    (λ c. omega (arith, met-here (c .before .before .before .before) .meets .dart))
     returns
     returns-2
     cast-at
     at-requires
-    cast-t32
+    (λ c. cast-at (c .before .before))
     returns-3
     add-count
     cast-to
-    shared-slice-read-own-2
-    add-t35
-    cast-t36
+    lambda-at-requires-2
+    (λ c κs. search needs)
+    (λ c. omega (arith, turn (c .before .before .before .before .before) .loop .inv .0, start (turn (c .before .before .before .before .before)) .pre .0 .lent .level, start (turn (c .before .before .before .before .before)) .pre .0 .lent .height))
+    (λ c. omega (arith, turn (c .before .before .before .before .before) .loop .inv .0, start (turn (c .before .before .before .before .before)) .pre .0 .lent .level, start (turn (c .before .before .before .before .before)) .pre .0 .lent .height))
     returns-4
     cast-larger
     larger-requires
