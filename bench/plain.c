@@ -858,17 +858,84 @@ zg_factor plain_decimation(uint8_t n, uint16_t darts, uint8_t h, const uint16_t 
 
 /* ---------------------------------------------------------------- census */
 
-/* The cells of one dimension of an explicit level, counted by their lowest darts: each dart is reached once. */
-static unsigned count_cells(unsigned n, unsigned darts, const uint16_t *table, unsigned dimension)
+/* Darts to search from, each with the row that led to it. */
+struct starts {
+    uint16_t dart[ZG_MOST_DARTS];
+    uint8_t by[ZG_MOST_DARTS];
+    unsigned size;
+};
+
+/* How many cells of one dimension have one of the darts to which another row led. A stamp for each count spares the set
+ * that would have to be cleared. */
+static unsigned count_cells(unsigned n, unsigned darts, const uint16_t *table, unsigned dimension,
+                            const struct starts *from, uint16_t *stamps, uint16_t stamp)
 {
-    uint8_t reached[ZG_MOST_DARTS] = {0};
+    uint16_t open[ZG_MOST_DARTS];
     unsigned count = 0;
-    for (unsigned d = 0; d < darts; d++)
-        if (table[d] != ZG_ABSENT && !reached[d]) {
-            reach(n, darts, table, but_one(dimension), d, reached, 1);
-            count++;
+    for (unsigned k = 0; k < from->size; k++) {
+        unsigned first = from->dart[k], opens = 1;
+        if (from->by[k] == dimension || stamps[first] == stamp)
+            continue;
+        stamps[first] = stamp;
+        open[0] = (uint16_t)first;
+        count++;
+        while (opens) {
+            const uint16_t *to = table + open[--opens];
+            for (unsigned j = 0; j <= n; j++, to += darts)
+                if (j != dimension && stamps[*to] != stamp) {
+                    stamps[*to] = stamp;
+                    open[opens++] = *to;
+                }
         }
+    }
     return count;
+}
+
+static void start_from(struct starts *from, const uint16_t *kernel, unsigned size)
+{
+    memcpy(from->dart, kernel, size * sizeof *kernel);
+    memset(from->by, ZG_STAY, size);
+    from->size = size;
+}
+
+/* The survivors that a row leads to from the kernel: it is made of whole cells, so only that of a dart's own dimension
+ * leads out of it. */
+static void start_beside(struct starts *from, unsigned level, const uint16_t *table, const uint16_t *mark,
+                         const uint16_t *kernel, unsigned size, const struct way *ways)
+{
+    from->size = 0;
+    for (unsigned k = 0; k < size; k++) {
+        unsigned own = mark[kernel[k]], survivor = table[ways[own % WAYS].own + kernel[k]];
+        from->dart[from->size] = (uint16_t)survivor;
+        from->by[from->size] = (uint8_t)dimension_of(own);
+        from->size += mark[survivor] >> 8 > level;
+    }
+}
+
+/* The base is counted whole. From level to level a cell that meets no dart of the kernel stands: those that do are
+ * counted before the removal, and after it those that have a survivor beside the kernel. */
+static void count_levels(unsigned n, unsigned darts, unsigned h, const uint16_t *mark, uint16_t *table, uint16_t *cells)
+{
+    uint16_t order[ZG_MOST_DARTS], stamps[ZG_MOST_DARTS] = {0}, stamp = 1;
+    unsigned start[35];
+    struct way ways[WAYS];
+    struct starts from;
+    list_ways(n, darts, ways);
+    sort_by_kernel(darts, mark, order, start);
+    start_from(&from, order, darts);
+    for (unsigned i = 0; i <= n; i++)
+        cells[i] = (uint16_t)count_cells(n, darts, table, i, &from, stamps, stamp++);
+    for (unsigned l = 0; l < h; l++, cells += 5) {
+        const uint16_t *kernel = order + start[l];
+        unsigned size = start[l + 1] - start[l];
+        start_from(&from, kernel, size);
+        for (unsigned i = 0; i <= n; i++)
+            cells[5 + i] = (uint16_t)(cells[i] - count_cells(n, darts, table, i, &from, stamps, stamp++));
+        start_beside(&from, l, table, mark, kernel, size, ways);
+        remove_kernel(n, darts, table, mark, kernel, size, ways);
+        for (unsigned i = 0; i <= n; i++)
+            cells[5 + i] = (uint16_t)(cells[5 + i] + count_cells(n, darts, table, i, &from, stamps, stamp++));
+    }
 }
 
 zg_refusal plain_census(uint8_t n, uint16_t darts, uint8_t h, const uint16_t *rows, size_t rows_len,
@@ -888,15 +955,11 @@ zg_refusal plain_census(uint8_t n, uint16_t darts, uint8_t h, const uint16_t *ro
     memset(sums, 0, ZG_SUMS * sizeof *sums);
     uint16_t mark[ZG_MOST_DARTS];
     join_marks(darts, lambda, delta, mark);
-    for (unsigned l = 0; l <= h; l++) {
-        memcpy(table, rows, rows_len * sizeof *rows);
-        climb(n, darts, l, mark, table);
-        for (unsigned i = 0; i <= n; i++) {
-            unsigned count = count_cells(n, darts, table, i);
-            cells[5 * l + i] = (uint16_t)count;
-            sums[l] += i & 1 ? -(int32_t)count : (int32_t)count;
-        }
-    }
+    memcpy(table, rows, rows_len * sizeof *rows);
+    count_levels(n, darts, h, mark, table, cells);
+    for (unsigned l = 0; l <= h; l++)
+        for (unsigned i = 0; i <= n; i++)
+            sums[l] += i & 1 ? -(int32_t)cells[5 * l + i] : (int32_t)cells[5 * l + i];
     return r;
 }
 
