@@ -24,7 +24,7 @@ use Rattle.checking.specs.Checked.{baseAndMarks}
 use Rattle.checking.specs.Added.{addSizes, rowMarks, addMarks, newTop, ascends, ascendLeaves}
 use Rattle.checking.proofs.AddKernels.{ascends-late}
 use Rattle.climbing.proofs.Verdicts.{Says, says-when, says-then, says-scan}
-use Rattle.checking.proofs.Early.{Early, lengths-early, at-sizes, at-marks, at-kernels}
+use Rattle.checking.proofs.Parts.{Early, lengths-early, at-sizes, at-marks, at-kernels}
 use Rattle.checking.proofs.PyramidCheck.{Lent, lent-facts, marks-early-all}
 
 module _ (P : Folded) (row table : List ℕ) where

@@ -1,4 +1,4 @@
-mod Early
+mod Parts
 pub mod PyramidCheck
 mod AddKernels
 mod AddCheck

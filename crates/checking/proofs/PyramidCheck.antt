@@ -1,8 +1,8 @@
 -- The verdict of the pyramid's check and what it leaves, taken apart as the code tests it. Assumes nothing.
-use mathlib.Core.Path.{_≡_, sym, _∙_}
+use mathlib.Core.Path.{_≡_, refl, sym, _∙_}
 use mathlib.Core.Bool.{Bool, true, _&&_}
 use mathlib.Core.List.{List}
-use Prim.Native.Nat.{ℕ, suc, _*_, _≤_}
+use Prim.Native.Nat.{ℕ, suc, _*_, _≤_, _<_}
 use native.Mathlib.Omega.{arith}
 use lib.ListN.{length}
 use borrow.Author.Tests.{eq-eqb, eqb-true}
@@ -20,9 +20,9 @@ use Rattle.answers.specs.Numbers.{refusalOf}
 use Rattle.answers.specs.Lent.{lentOf}
 use Rattle.answers.specs.declared.Refusal.{Refusal}
 use Rattle.climbing.specs.Climb.{Base, climbs, climbLeaves}
-use Rattle.checking.specs.Checked.{lentSizes, baseSizes, baseAndMarks}
-use Rattle.climbing.proofs.Verdicts.{Says, says-then, kernels-late}
-use Rattle.checking.proofs.Early.{Early, lengths-early, map-early, marks-early, at-sizes, at-marks, at-kernels}
+use Rattle.checking.specs.Checked.{lentSizes, baseSizes, baseAndMarks, earlyOf}
+use Rattle.climbing.proofs.Verdicts.{Says, Late, passed, says-then, kernels-late}
+use Rattle.checking.proofs.Parts.{Early, lengths-early, map-early, marks-early, at-sizes, at-kernels}
 
 module _ (P : Folded) where
   open Folded P using (n, N, h, rows, lambda, delta)
@@ -93,45 +93,54 @@ module _ (P : Folded) (table : List ℕ) where
         allowed = λ d ld. when-accepted (refusedMarks n h (each lambda d) (each delta d)) 8 0 0 d (scan-accepted N (at8 n h (each lambda) (each delta)) (s .1) d ld);
       }
 
-  abbrev S : Verdict
-  S = lentSizes P table
-
-  abbrev M : Verdict
-  M = baseAndMarks P
+  -- the verdict of 1 to 8, and that of the kernels
+  abbrev E : Verdict
+  E = earlyOf P table
 
   abbrev K : Verdict
   K = climbs P
 
-  parts : checkLent P table ≡ (S then (M then K))
+  pub check-is : checkLent P table ≡ (E then K)
   unfolding checkLent checkPyramid
-  parts = simp then-two
+  check-is = simp then-two
 
-  -- an accepted check has passed them all
+  parts : checkLent P table ≡ (E then (accepted then K))
+  parts = check-is
+
+  abbrev exact : Bool
+  exact = hasLength rows (suc n * N) && (hasLength lambda N && (hasLength delta N && hasLength table (suc n * N)))
+
+  early-all : Says Early E
+  early-all = says-then (lentSizes P table) (baseAndMarks P) (lengths-early n N h exact) marks-early-all
+
+  late-all : Says (Late (λ x. x < h)) K
+  late-all = kernels-late (entry N rows) n N h (each lambda) (each delta)
+
+  -- what 1 to 8 tell when they are not refused
+  pub early-passed : E ≡ accepted → Lent P table × Base P
+  early-passed e =
+      let s = then-accepted (lentSizes P table) (baseAndMarks P) e in
+      let p = check-facts (s .0) in
+      (p, based p (s .1))
+
+  -- an accepted check has passed them and all kernels
   pub check-passed : checkLent P table ≡ accepted → Lent P table × Base P × (K ≡ accepted)
   check-passed e =
-      let s = then-accepted S (M then K) (sym parts ∙ e) in
-      let t = then-accepted M K (s .1) in
-      let p = check-facts (s .0) in
-      (p, based p (t .0), t .1)
+      let s = then-accepted E K (sym check-is ∙ e) in
+      let p = early-passed (s .0) in
+      (p .0, p .1, s .1)
 
-  abbrev Answers : Verdict → List ℕ → Type 0
+  abbrev pub Answers : Verdict → List ℕ → Type 0
   Answers v after = (v ≡ checkLent P table) × (after ≡ checkLeaves P table)
 
   abbrev T : ℕ → List ℕ
   T = tableAt P
 
-  abbrev exact : Bool
-  exact = hasLength rows (suc n * N) && (hasLength lambda N && (hasLength delta N && hasLength table (suc n * N)))
-
-  -- refused by 1 to 4, by 5 to 8, or as the kernels say
-  pub check-sizes : (r : Refusal) → refusalOf r ≡ S → Answers (refusalOf r) table
+  -- refused by 1 to 8, or as the kernels say
+  pub check-early : (r : Refusal) → refusalOf r ≡ E → Answers (refusalOf r) table
   unfolding checkLeaves
-  check-sizes = at-sizes (T h) T table (checkLent P table) S M K parts (lengths-early n N h exact) marks-early-all (kernels-late (entry N rows) n N h (each lambda) (each delta))
+  check-early = at-sizes (T h) T table (checkLent P table) E accepted K parts early-all passed late-all
 
-  pub check-marks : accepted ≡ S → (r : Refusal) → refusalOf r ≡ M → Answers (refusalOf r) table
+  pub check-climbed : accepted ≡ E → {v : Verdict} {after : List ℕ} → v ≡ K → after ≡ climbLeaves P → Answers v after
   unfolding checkLeaves
-  check-marks = at-marks (T h) T table (checkLent P table) S M K parts (lengths-early n N h exact) marks-early-all (kernels-late (entry N rows) n N h (each lambda) (each delta))
-
-  pub check-climbed : accepted ≡ S → accepted ≡ M → {v : Verdict} {after : List ℕ} → v ≡ K → after ≡ climbLeaves P → Answers v after
-  unfolding checkLeaves
-  check-climbed f g e = at-kernels (T h) T table (checkLent P table) S M K parts (lengths-early n N h exact) marks-early-all (kernels-late (entry N rows) n N h (each lambda) (each delta)) f g rows e
+  check-climbed f e = at-kernels (T h) T table (checkLent P table) E accepted K parts early-all passed late-all f refl rows e

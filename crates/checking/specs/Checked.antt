@@ -19,3 +19,7 @@ baseSizes n N rows = lentOf n N 0 (hasLength rows (suc n * N))
 -- 5, 6, 7 of the base and 8 of Λ and Δ
 abbrev pub baseAndMarks : Folded → Verdict
 baseAndMarks f = checkMap (base f) (f .n) (f .N) (λ d. true) then check8 (f .n) (f .N) (f .h) (lambdaOf f) (deltaOf f)
+
+-- 1 to 8
+abbrev pub earlyOf : Folded → List ℕ → Verdict
+earlyOf f table = lentSizes f table then baseAndMarks f

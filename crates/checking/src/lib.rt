@@ -4,3 +4,4 @@ mod pyramid; // pyramid.rt: a whole pyramid, and a level added
 pub use pyramid::Added;
 pub use pyramid::add;
 pub use pyramid::check;
+pub use pyramid::early;

@@ -24,7 +24,7 @@ ghost use Rattle.maps.specs.AddLevel.{refusedMark, addLent, addHeight, addLambd
 ghost use Rattle.answers.specs.Pyramid.{lent};
 ghost use Rattle.answers.specs.Numbers.{verdictOf};
 ghost use Rattle.climbing.specs.Climb.{Base};
-ghost use Rattle.checking.specs.Checked.{lentSizes, baseSizes, baseAndMarks};
+ghost use Rattle.checking.specs.Checked.{lentSizes, baseSizes, baseAndMarks, earlyOf};
 ghost use Rattle.checking.specs.Added.{addSizes, rowMarks, addMarks, ascends, ascendLeaves};
 ghost use Rattle.checking.specs.Answers.{addedOf, heightOf};
 
@@ -64,15 +64,22 @@ fn base_and_marks(sizes: Sizes, rows: &[u16], lambda: &[u8], delta: &[u8]) -> Ch
     answers::marks_refusal(sizes, lambda, delta, Level(0))
 }
 
+// Numbers 1 to 8, before anything lent is written.
+pub fn early(sizes: Sizes, rows: &[u16], lambda: &[u8], delta: &[u8], table: &[u16]) -> Check
+    ensures { λ r. ⌜ verdictOf r ≡ earlyOf (lent sizes (rows .entry) (lambda .entry) (delta .entry)) (now (table .entry)) ⌝ }
+{
+    if let Check::Refused(r) = lent(sizes, rows, lambda, delta, table) {
+        return Check::Refused(r);
+    }
+    base_and_marks(sizes, rows, lambda, delta)
+}
+
 // Check a whole pyramid. Accepted, the table holds the explicit level h; after 9 or 10 the level whose kernel failed.
 pub fn check(sizes: Sizes, rows: &[u16], lambda: &[u8], delta: &[u8], table: &mut [u16]) -> Check
     ensures verdict { λ r. ⌜ verdictOf r ≡ checkLent (lent sizes (rows .entry) (lambda .entry) (delta .entry)) (now (table .entry)) ⌝ }
     ensures table_left { λ _. ⌜ now (table .exit) ≡ checkLeaves (lent sizes (rows .entry) (lambda .entry) (delta .entry)) (now (table .entry)) ⌝ }
 {
-    if let Check::Refused(r) = lent(sizes, rows, lambda, delta, table) {
-        return Check::Refused(r);
-    }
-    if let Check::Refused(r) = base_and_marks(sizes, rows, lambda, delta) {
+    if let Check::Refused(r) = early(sizes, rows, lambda, delta, table) {
         return Check::Refused(r);
     }
     climbing::rise(sizes, rows, lambda, delta, table)
@@ -226,21 +233,21 @@ fn copy_row(row: &[u8], copied: &mut [u8])
 
 // Λ and Δ with the mark row folded in, in rows of their own.
 fn folded(
-    n: Dim,
-    h: Level,
+    sizes: Sizes,
     row: &[u8],
     lambda: &[u8],
     delta: &[u8],
     new_lambda: &mut [u8],
     new_delta: &mut [u8],
 )
-    requires { ⌜ (h .0 ≤ 32) × (length (now lambda) ≡ length (now row)) × (length (now delta) ≡ length (now row)) × (length (now «new_lambda») ≡ length (now row)) × (length (now «new_delta») ≡ length (now row)) ⌝ }
-    ensures new_lambda_left { λ _. ⌜ now («new_lambda» .exit) ≡ listed (addΛ (n .0) (h .0) (each (now (lambda .entry))) (each (now (row .entry)))) (length (now (row .entry))) ⌝ }
-    ensures new_delta_left { λ _. ⌜ now («new_delta» .exit) ≡ listed (addΔ (n .0) (each (now (delta .entry))) (each (now (row .entry)))) (length (now (row .entry))) ⌝ }
+    requires { ⌜ (sizes .h .0 ≤ 32) × (length (now lambda) ≡ length (now row)) × (length (now delta) ≡ length (now row)) ⌝ }
+    requires { ⌜ (length (now «new_lambda») ≡ length (now row)) × (length (now «new_delta») ≡ length (now row)) ⌝ }
+    ensures new_lambda_left { λ _. ⌜ now («new_lambda» .exit) ≡ listed (addΛ (sizes .n .0) (sizes .h .0) (each (now (lambda .entry))) (each (now (row .entry)))) (length (now (row .entry))) ⌝ }
+    ensures new_delta_left { λ _. ⌜ now («new_delta» .exit) ≡ listed (addΔ (sizes .n .0) (each (now (delta .entry))) (each (now (row .entry)))) (length (now (row .entry))) ⌝ }
 {
     copy_row(lambda, new_lambda);
     copy_row(delta, new_delta);
-    fold_in(n, h, row, new_lambda, new_delta);
+    fold_in(sizes.n, sizes.h, row, new_lambda, new_delta);
 }
 
 // Kernels 0 to h−1, then the mark row as kernel h, from the base.
@@ -262,8 +269,7 @@ fn ascend(
     let mut new_lambda = [0u8; ROOM];
     let mut new_delta = [0u8; ROOM];
     folded(
-        sizes.n,
-        sizes.h,
+        sizes,
         row,
         lambda,
         delta,

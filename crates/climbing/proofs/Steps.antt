@@ -11,7 +11,7 @@ use Rattle.maps.specs.Verdict.{accepted, refused, scan}
 use Rattle.maps.specs.Mark.{isMark}
 use Rattle.maps.specs.Table.{entry, each}
 use Rattle.maps.specs.Folded.{marks, survives, level, levelTable, Folded, lambdaOf, deltaOf}
-use Rattle.maps.specs.Check.{checkKernel, kernelAt}
+use Rattle.maps.specs.Check.{checkKernel, kernelAt, checkKernels}
 use Rattle.maps.specs.CheckPyramid.{leftBehind}
 use Rattle.laws.proofs.Verdicts.{scan-first, scan-more}
 use Rattle.laws.proofs.Tables.{length-explicit}
@@ -23,8 +23,8 @@ use Rattle.answers.proofs.Refusals.{refusal-refuses, refusal-keeps}
 use Rattle.kernels.specs.Strings.{kernelRow, Linked, Marks, Strung}
 use Rattle.kernels.specs.Ready.{Tested, removedFrom, stepLeaves}
 use Rattle.kernels.proofs.Strung.{in-kernel, first-same}
-use Rattle.climbing.specs.Climb.{Base, climbsTo, climbToLeaves, Climbed}
-use Rattle.climbing.proofs.Verdicts.{kernel-late, late-leaves}
+use Rattle.climbing.specs.Climb.{Base, kernelOf, climbs, climbLeaves, climbsTo, climbToLeaves, Climbed}
+use Rattle.climbing.proofs.Verdicts.{kernel-late, late-leaves, scan-stops}
 
 pub climb-none : {f : Folded} {head next table : List ℕ} → Base f → Linked (length (f .lambda)) (lambdaOf f) 0 head next → table ≡ f .rows → Climbed f 0 head next table
 unfolding scan
@@ -35,6 +35,15 @@ climb-none {f} b linked copied = record {
   holds = copied ∙ base-table (f .n) (f .N) (f .h) (f .rows) (lambdaOf f) (deltaOf f) (b .rows-long);
   strung = rw (b .lambda-long) at linked;
 }
+
+-- a climb that is refused below a level is refused, and has left what the whole climb leaves
+pub climb-stopped : (P : Folded) (l : ℕ) → l ≤ P .h → (r : Refusal) {after : List ℕ} → refusalOf r ≡ climbsTo P l → after ≡ climbToLeaves P l → (refusalOf r ≡ climbs P) × (after ≡ climbLeaves P)
+unfolding leftBehind checkKernels
+climb-stopped P l low r e leaves =
+    let x = refusal-refuses r in
+    let here : climbsTo P l ≡ refused (x .number) (x .level) (x .involution) (x .dart) = sym e ∙ x .is in
+    let all : climbs P ≡ refused (x .number) (x .level) (x .involution) (x .dart) = scan-stops (kernelOf P) l (P .h) low here in
+    (x .is ∙ sym all, leaves ∙ rw (here, all))
 
 module _ {P : Folded} {l : ℕ} {head next table : List ℕ} (c : Climbed P l head next table) where
   open Folded P using (n, N, h, rows, lambda, delta)

@@ -2,9 +2,10 @@
 use mathlib.Core.Path.{_≡_, refl, ap}
 use mathlib.Core.Bool.{Bool, true, false, _||_}
 use mathlib.Core.List.{List}
-use Prim.Native.Nat.{ℕ, zero, suc, _<_}
+use Prim.Native.Nat.{ℕ, zero, suc, _≤_, _<_}
 use native.Mathlib.Omega.{arith}
 use lib.Dec.{eqb}
+use borrow.Author.Tests.{eqb-true, eqb-false}
 use Rattle.maps.specs.Verdict.{Verdict, accepted, refused, when, ifAccepted, _then_, scan}
 use Rattle.maps.specs.Map.{Involutions}
 use Rattle.maps.specs.Mark.{between}
@@ -59,3 +60,19 @@ pub late-leaves : (top : List ℕ) (levels : ℕ → List ℕ) (found : List ℕ
 unfolding leftBehind
 late-leaves top levels found m _ passed = refl
 late-leaves top levels found m _ (says k l i d p) = rw (p .0) (ap levels (p .1))
+
+-- what was found matters only to other numbers
+pub late-found : {At : ℕ → Type 0} (top : List ℕ) (levels : ℕ → List ℕ) (found other : List ℕ) (v : Verdict) → Says (Late At) v → leftBehind top levels found v ≡ leftBehind top levels other v
+unfolding leftBehind
+late-found top levels found other _ passed = refl
+late-found top levels found other _ (says k l i d p) = rw (p .0)
+
+-- a scan that is refused is refused no matter how far it goes
+pub scan-stops : (v : ℕ → Verdict) (l m : ℕ) {k x i d : ℕ} → l ≤ m → scan l v ≡ refused k x i d → scan m v ≡ refused k x i d
+unfolding scan
+scan-stops v l zero low e = let z : l ≡ 0 = omega arith in rw z at e
+scan-stops v l (suc m) {k} {x} {i} {d} low e = go (λ f. scan-stops v l m f e) (eqb l (suc m)) refl
+  where
+    go : (l ≤ m → scan m v ≡ refused k x i d) → (b : Bool) → eqb l (suc m) ≡ b → scan (suc m) v ≡ refused k x i d
+    go r true q = rw (eqb-true l (suc m) q) at e
+    go r false q = let ne : l ≡ suc m → ⊥ = eqb-false l (suc m) q in rw (r (omega arith))

@@ -1,31 +1,41 @@
--- What the climb of the joined pyramid asks, answers and leaves. Assumes nothing: these are definitions.
+-- What the climb of a join asks, answers and leaves. Assumes nothing: these are definitions.
 use mathlib.Core.Path.{_≡_}
 use mathlib.Core.List.{List}
-use Prim.Native.Nat.{ℕ, suc, _-_, _*_, _≤_, _<_}
-use lib.ListN.{length}
-use Rattle.maps.specs.Verdict.{Verdict, ifAccepted}
-use Rattle.maps.specs.Table.{entry, each}
-use Rattle.maps.specs.Folded.{marks, level, levelTable}
+use Prim.Native.Nat.{ℕ, suc, _-_, _<_}
+use Rattle.maps.specs.Verdict.{Verdict, accepted, _then_}
+use Rattle.maps.specs.Table.{listed}
+use Rattle.maps.specs.Folded.{marks, level, Folded, base, lambdaOf, deltaOf, ofParts}
 use Rattle.maps.specs.Check.{checkKernel}
-use Rattle.maps.specs.Pyramid.{Pyramid}
-use Rattle.maps.specs.Join.{joinΛ}
-
--- an accepted pyramid in bounds, with two kernels from level l on
-pub record Checked (n N h : ℕ) (rows lambda delta : List ℕ) (l : ℕ) : Type 0 where
-  pub dimension : n ≤ 4
-  pub darts : N ≤ 4096
-  pub height : h ≤ 32
-  pub rows-long : length rows ≡ suc n * N
-  pub lambda-long : length lambda ≡ N
-  pub delta-long : length delta ≡ N
-  pub pyramid : Pyramid (entry N rows) n N h (each lambda) (each delta)
-  pub pair : suc l < h
+use Rattle.maps.specs.CheckPyramid.{leftBehind, tableAt}
+use Rattle.maps.specs.Join.{joinΛ, joinedRow}
+use Rattle.answers.specs.Pyramid.{pyramid}
+use Rattle.answers.specs.declared.AtLevel.{AtLevel}
+use Rattle.climbing.specs.Climb.{climbs, Climbed}
 
 -- 9 and 10 of the joined kernel, on level l
-abbrev pub joinedVerdict : ℕ → ℕ → ℕ → List ℕ → List ℕ → List ℕ → ℕ → Verdict
-joinedVerdict n N h rows lambda delta l = checkKernel (level (entry N rows) n N (marks h (each lambda) (each delta)) l) n N (marks (h - 1) (joinΛ l (each lambda)) (each delta) l) l
+abbrev pub joinedVerdict : Folded → ℕ → Verdict
+joinedVerdict f l = checkKernel (level (base f) (f .n) (f .N) (marks (f .h) (lambdaOf f) (deltaOf f)) l) (f .n) (f .N) (joinedRow f l) l
 
--- the top level where it is accepted, else level l
-abbrev pub joinedLeaves : ℕ → ℕ → ℕ → List ℕ → List ℕ → List ℕ → ℕ → List ℕ
-joinedLeaves n N h rows lambda delta l =
-    ifAccepted (joinedVerdict n N h rows lambda delta l) (levelTable (entry N rows) n N h (each lambda) (each delta) h) (levelTable (entry N rows) n N h (each lambda) (each delta) l)
+-- 9 and 10 of all kernels, then of the joined one; and what is left in the table
+abbrev pub climbsJoined : Folded → ℕ → Verdict
+climbsJoined f l = climbs f then joinedVerdict f l
+
+abbrev pub climbJoinedLeaves : Folded → ℕ → List ℕ
+climbJoinedLeaves f l = leftBehind (tableAt f (f .h)) (tableAt f) (f .rows) (climbsJoined f l)
+
+-- the pyramid with its two kernels joined
+abbrev pub joinedOf : Folded → ℕ → Folded
+joinedOf f l = ofParts (f .n) (f .N) (f .h - 1) (f .rows) (listed (joinΛ l (lambdaOf f)) (f .N)) (f .delta)
+
+-- the test of the joined kernel, on the table that holds its level
+module _ (at : AtLevel) (lambda delta table : List ℕ) where
+  abbrev pub over : List ℕ → Folded
+  over rows = pyramid (at .sizes) rows lambda delta
+
+  -- what it asks: two kernels from the level on, and a base from which the level was climbed
+  abbrev pub Reached : Type 0
+  Reached = (suc (at .level .0) < at .sizes .h .0) × ((rows : List ℕ) × ((head : List ℕ) × ((next : List ℕ) × Climbed (over rows) (at .level .0) head next table)))
+
+  -- what it answers: the joined kernel's verdict, if all kernels are accepted; 10 never comes then
+  abbrev pub Tells : Verdict → Type 0
+  Tells v = (rows head next : List ℕ) → Climbed (over rows) (at .level .0) head next table → climbs (over rows) ≡ accepted → v ≡ joinedVerdict (over rows) (at .level .0)

@@ -1,9 +1,15 @@
 // Join two kernels of an accepted pyramid that follow each other. Assumes nothing.
+use answers::ABSENT;
+use answers::AtLevel;
 use answers::Check;
 use answers::Dim;
 use answers::Level;
+use answers::ROOM;
 use answers::Refusal;
 use answers::Sizes;
+use climbing::Stretch;
+use kernels::HEADS;
+use kernels::Kernel;
 ghost use mathlib.Core.Path.{_≡_};
 ghost use mathlib.Core.Bool.{cond};
 ghost use Prim.Native.Nat.{suc, _-_, _<_};
@@ -11,10 +17,11 @@ ghost use lib.ListN.{length};
 ghost use lib.Dec.{leb, ltb};
 ghost use Rattle.maps.specs.Table.{each, listed};
 ghost use Rattle.maps.specs.Join.{joinΛ, joinLent, joinHeight, joinLambda, joinLeaves};
-ghost use Rattle.answers.specs.Pyramid.{given};
+ghost use Rattle.answers.specs.Pyramid.{lent, given};
 ghost use Rattle.answers.specs.Numbers.{verdictOf};
+ghost use Rattle.climbing.specs.Climb.{Base};
 ghost use Rattle.joining.specs.Answers.{joinedOf, heightOf};
-ghost use Rattle.joining.specs.Climbed.{Checked, joinedVerdict, joinedLeaves};
+ghost use Rattle.joining.specs.Climbed.{climbsJoined, climbJoinedLeaves, Reached, Tells};
 
 // The answer: the height once the two kernels are one, or why they are not.
 pub enum Joined {
@@ -48,7 +55,7 @@ fn join_row(level: Level, lambda: &[u8], joined: &mut [u8])
     ensures { λ _. ⌜ now (joined .exit) ≡ listed (joinΛ (level .0) (each (now (lambda .entry)))) (length (now (lambda .entry))) ⌝ }
 {
     for d in 0..lambda.len() {
-        let new = lambda_joined(level, Level(lambda[d]));
+        let new = lambda_joined(level, answers::lambda_at(lambda, d));
         joined[d] = new.0;
     }
 }
@@ -58,38 +65,100 @@ fn join_lambda(level: Level, lambda: &mut [u8])
     ensures { λ _. ⌜ now (lambda .exit) ≡ listed (joinΛ (level .0) (each (now (lambda .entry)))) (length (now (lambda .entry))) ⌝ }
 {
     for d in 0..lambda.len() {
-        let new = lambda_joined(level, Level(lambda[d]));
+        let new = lambda_joined(level, answers::lambda_at(lambda, d));
         lambda[d] = new.0;
     }
 }
 
-// The kernels of the joined pyramid, one after the other from the base: all below the joined one were accepted before, and those above are where it is. So its verdict is found, and the table holds its level or the top. The joined Λ, 4,096 bytes, is all the local memory here.
-fn climb(
-    n: Dim,
-    darts: u16,
-    h: Level,
-    rows: &[u16],
-    lambda: &[u8],
-    delta: &[u8],
-    table: &mut [u16],
-    level: Level,
-) -> Check
-    requires { ⌜ Checked (n .0) darts (h .0) (now rows) (now lambda) (now delta) (level .0) × (length (now table) ≡ length (now rows)) ⌝ }
-    ensures verdict { λ r. ⌜ verdictOf r ≡ joinedVerdict (n .0) darts (h .0) (now (rows .entry)) (now (lambda .entry)) (now (delta .entry)) (level .0) ⌝ }
-    ensures table_left { λ _. ⌜ now (table .exit) ≡ joinedLeaves (n .0) darts (h .0) (now (rows .entry)) (now (lambda .entry)) (now (delta .entry)) (level .0) ⌝ }
+// Number 9 of the joined kernel, on the table that holds its level. The joined Λ and its strings, 12,800 bytes, are local.
+fn tested(at: AtLevel, lambda: &[u8], delta: &[u8], table: &[u16]) -> Check
+    requires { ⌜ Reached at (now lambda) (now delta) (now table) ⌝ }
+    ensures { λ r. ⌜ Tells at (now (lambda .entry)) (now (delta .entry)) (now (table .entry)) (verdictOf r) ⌝ }
 {
+    let n = at.sizes.n;
+    let darts = at.sizes.darts;
+    let level = at.level;
     let width = darts as usize;
-    let lower = Sizes {
-        n,
-        h: Level(h.0 - 1),
-        darts,
-    };
-    let mut joined = [0u8; 4096];
+    let mut joined = [0u8; ROOM];
+    let mut head = [ABSENT; HEADS];
+    let mut next = [0u16; ROOM];
     join_row(level, lambda, &mut joined[..width]);
-    climbing::rise(lower, rows, &joined[..width], delta, table)
+    kernels::link(&joined[..width], &mut head, &mut next);
+    let first = head[level.0 as usize];
+    let kernel = Kernel {
+        n,
+        darts,
+        level,
+        first,
+    };
+    kernels::whole(kernel, &joined[..width], delta, &next, table)
+}
+
+// All kernels, from the base, and on the way up, on its level, the joined one, whose refusal comes last. Only such a refusal climbs again, to leave that level. The strings, 8,704 bytes, are local.
+fn climb(at: AtLevel, rows: &[u16], lambda: &[u8], delta: &[u8], table: &mut [u16]) -> Check
+    requires { ⌜ Base (lent (at .sizes) rows lambda delta) × (suc (at .level .0) < at .sizes .h .0) × (length (now table) ≡ length (now rows)) ⌝ }
+    ensures verdict { λ r. ⌜ verdictOf r ≡ climbsJoined (lent (at .sizes) (rows .entry) (lambda .entry) (delta .entry)) (at .level .0) ⌝ }
+    ensures table_left { λ _. ⌜ now (table .exit) ≡ climbJoinedLeaves (lent (at .sizes) (rows .entry) (lambda .entry) (delta .entry)) (at .level .0) ⌝ }
+{
+    let sizes = at.sizes;
+    let mut head = [ABSENT; HEADS];
+    let mut next = [0u16; ROOM];
+    climbing::begin(rows, lambda, &mut head, &mut next, table);
+    let below = Stretch {
+        sizes,
+        from: Level(0),
+        to: Level(at.level.0),
+    };
+    if let Check::Refused(r) = climbing::go_on(below, lambda, delta, &head, &next, table) {
+        return Check::Refused(r);
+    }
+    let found = tested(at, lambda, delta, table);
+    let above = Stretch {
+        sizes,
+        from: Level(at.level.0),
+        to: Level(sizes.h.0),
+    };
+    if let Check::Refused(r) = climbing::go_on(above, lambda, delta, &head, &next, table) {
+        return Check::Refused(r);
+    }
+    if let Check::Refused(r) = found {
+        climbing::climb_to(at, rows, lambda, delta, table);
+        return Check::Refused(r);
+    }
+    Check::Accepted
 }
 
 // Join the kernels of this level and the next. The pyramid is checked first; Λ is written only once the joined kernel is accepted.
+fn join_pair(
+    sizes: Sizes,
+    rows: &[u16],
+    lambda: &mut [u8],
+    delta: &[u8],
+    table: &mut [u16],
+    level: Level,
+) -> Joined
+    ensures answer { λ r. ⌜ joinedOf r ≡ joinLent (lent sizes (rows .entry) (lambda .entry) (delta .entry)) (now (table .entry)) (level .0) ⌝ }
+    ensures height { λ r. ⌜ heightOf (sizes .h .0) r ≡ joinHeight (lent sizes (rows .entry) (lambda .entry) (delta .entry)) (now (table .entry)) (level .0) ⌝ }
+    ensures lambda_left { λ _. ⌜ now (lambda .exit) ≡ joinLambda (lent sizes (rows .entry) (lambda .entry) (delta .entry)) (now (table .entry)) (level .0) ⌝ }
+    ensures table_left { λ _. ⌜ now (table .exit) ≡ joinLeaves (lent sizes (rows .entry) (lambda .entry) (delta .entry)) (now (table .entry)) (level .0) ⌝ }
+{
+    if no_pair(sizes.h, level) {
+        if let Check::Refused(r) = checking::check(sizes, rows, lambda, delta, table) {
+            return Joined::Refused(r);
+        }
+        return Joined::Refused(Refusal::NoLevel(level, Dim(0), 0));
+    }
+    if let Check::Refused(r) = checking::early(sizes, rows, lambda, delta, table) {
+        return Joined::Refused(r);
+    }
+    if let Check::Refused(r) = climb(AtLevel { sizes, level }, rows, lambda, delta, table) {
+        return Joined::Refused(r);
+    }
+    join_lambda(level, lambda);
+    Joined::Lowered(Level(sizes.h.0 - 1))
+}
+
+// The same, of sizes that come one by one.
 pub fn join(
     n: Dim,
     darts: u16,
@@ -105,15 +174,5 @@ pub fn join(
     ensures lambda_left { λ _. ⌜ now (lambda .exit) ≡ joinLambda (given (n .0) darts (h .0) (rows .entry) (lambda .entry) (delta .entry)) (now (table .entry)) (level .0) ⌝ }
     ensures table_left { λ _. ⌜ now (table .exit) ≡ joinLeaves (given (n .0) darts (h .0) (rows .entry) (lambda .entry) (delta .entry)) (now (table .entry)) (level .0) ⌝ }
 {
-    if let Check::Refused(r) = checking::check(Sizes { n, h, darts }, rows, lambda, delta, table) {
-        return Joined::Refused(r);
-    }
-    if no_pair(h, level) {
-        return Joined::Refused(Refusal::NoLevel(level, Dim(0), 0));
-    }
-    if let Check::Refused(r) = climb(n, darts, h, rows, lambda, delta, table, level) {
-        return Joined::Refused(r);
-    }
-    join_lambda(level, lambda);
-    Joined::Lowered(Level(h.0 - 1))
+    join_pair(Sizes { n, h, darts }, rows, lambda, delta, table, level)
 }

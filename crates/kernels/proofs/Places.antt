@@ -2,15 +2,16 @@
 use mathlib.Core.Path.{_≡_, refl, sym, ap, _∙_}
 use mathlib.Core.Bool.{Bool, true, false}
 use mathlib.Core.List.{List}
-use Prim.Native.Nat.{ℕ, _+_, _*_, _/_, _%_, _≤_, _<_}
+use Prim.Native.Nat.{ℕ, suc, _+_, _*_, _/_, _%_, _≤_, _<_}
 use native.Mathlib.Omega.{arith}
+use native.Mathlib.Nat.{mul-le-mul-right}
 use lib.ListN.{length, set, length-set}
 use lib.Seq.{getD-set-same, getD-set-other}
 use lib.Arith.{digits-div, digits-mod}
 use lib.Dec.{eqb}
 use borrow.Author.Tests.{eqb-true, eqb-false}
 use Rattle.maps.specs.Table.{entry}
-use Rattle.laws.proofs.Tables.{in-table, table-size}
+use Rattle.laws.proofs.Tables.{in-table, table-size, next-row}
 use Rattle.kernels.specs.Ready.{Shape, Place, TableIs}
 
 -- a row and a dart have their place
@@ -18,6 +19,12 @@ pub place : {n N : ℕ} {table : List ℕ} → Shape n N table → (i d : ℕ) �
 place {n} {N} s i d li ld =
     let t = table-size n N i (s .dimension) (s .darts) li in
     record { darts = s .darts; dart = ld; inside = omega (arith, in-table n N i d li ld, s .long); small = omega (arith, s .long) }
+
+-- a row lies in the table
+pub row-inside : {n N : ℕ} {table : List ℕ} → Shape n N table → (i : ℕ) → i ≤ n → i * N + N ≤ length table
+row-inside {n} {N} s i li =
+    let m : (i + 1) * N ≤ suc n * N = mul-le-mul-right N (omega arith) in
+    omega (arith, next-row i N, s .long)
 
 -- a table of the same length has the same shape, and the same places
 pub shape-still : {n N : ℕ} {before after : List ℕ} → Shape n N before → length after ≡ length before → Shape n N after

@@ -4,8 +4,10 @@ use mathlib.Core.Bool.{Bool, true, cond, _&&_, not}
 use mathlib.Core.List.{List}
 use Prim.Native.Nat.{ℕ, suc, _+_, _*_, _<_, _≤_}
 use lib.ListN.{length}
+use denote.Ref.{RefT, now}
 use lib.Dec.{ltb}
 use Rattle.maps.specs.Verdict.{ifAccepted}
+use Rattle.maps.specs.Map.{Involutions}
 use Rattle.maps.specs.Count.{sum}
 use Rattle.maps.specs.Mark.{isMark, between}
 use Rattle.maps.specs.Kernel.{Kernel}
@@ -14,6 +16,16 @@ use Rattle.maps.specs.Table.{entry, absent, explicit}
 use Rattle.maps.specs.Check.{checkKernel}
 use Rattle.maps.specs.CheckBase.{present}
 use Rattle.maps.specs.Explicit.{There, Sound}
+use Rattle.kernels.specs.declared.Kernel.{Kernel as Declared}
+use Rattle.kernels.specs.Strings.{kernelRow}
+
+-- the level that a kernel is lent, as a map
+abbrev pub mapOf : Declared → RefT (List ℕ) → Involutions
+mapOf kernel table = entry (kernel .darts) (now table)
+
+-- its mark row, from Λ and Δ
+abbrev pub rowOf : Declared → RefT (List ℕ) → RefT (List ℕ) → ℕ → ℕ
+rowOf kernel lambda delta = kernelRow (now lambda) (now delta) (kernel .level .0)
 
 -- sizes in range, and the length that goes with them
 pub record Shape (n N : ℕ) (table : List ℕ) : Type 0 where

@@ -13,11 +13,10 @@ pub use strings::link;
 pub use testing::fitting;
 pub use testing::whole;
 ghost use mathlib.Core.Path.{_≡_};
-ghost use Rattle.maps.specs.Table.{entry};
 ghost use Rattle.maps.specs.Check.{checkKernel};
 ghost use Rattle.answers.specs.Numbers.{verdictOf};
-ghost use Rattle.kernels.specs.Strings.{kernelRow, Strung};
-ghost use Rattle.kernels.specs.Ready.{Tested, stepLeaves};
+ghost use Rattle.kernels.specs.Strings.{Strung};
+ghost use Rattle.kernels.specs.Ready.{mapOf, rowOf, Tested, stepLeaves};
 
 // A kernel of a map of so many darts and n: the first dart of its string, and its level. The darts are narrow and come first: it is passed in one register then, and N is read with no shift.
 pub struct Kernel {
@@ -35,10 +34,10 @@ pub fn step(
     next: &[u16; ROOM],
     table: &mut [u16],
 ) -> Check
-    requires { ⌜ Tested (kernel .n .0) (kernel .darts) (kernelRow (now lambda) (now delta) (kernel .level .0)) (now table) ⌝ }
+    requires { ⌜ Tested (kernel .n .0) (kernel .darts) (rowOf kernel lambda delta) (now table) ⌝ }
     requires { ⌜ Strung (kernel .n .0) (kernel .darts) (kernel .level .0) (kernel .first) (now lambda) (now delta) (now next) ⌝ }
-    ensures verdict { λ r. ⌜ verdictOf r ≡ checkKernel (entry (kernel .darts) (now (table .entry))) (kernel .n .0) (kernel .darts) (kernelRow (now (lambda .entry)) (now (delta .entry)) (kernel .level .0)) (kernel .level .0) ⌝ }
-    ensures table_left { λ _. ⌜ now (table .exit) ≡ stepLeaves (kernel .n .0) (kernel .darts) (kernel .level .0) (kernelRow (now (lambda .entry)) (now (delta .entry)) (kernel .level .0)) (now (table .entry)) ⌝ }
+    ensures verdict { λ r. ⌜ verdictOf r ≡ checkKernel (mapOf kernel (table .entry)) (kernel .n .0) (kernel .darts) (rowOf kernel (lambda .entry) (delta .entry)) (kernel .level .0) ⌝ }
+    ensures table_left { λ _. ⌜ now (table .exit) ≡ stepLeaves (kernel .n .0) (kernel .darts) (kernel .level .0) (rowOf kernel (lambda .entry) (delta .entry)) (now (table .entry)) ⌝ }
 {
     if let Check::Refused(r) = whole(kernel, lambda, delta, next, table) {
         return Check::Refused(r);

@@ -1,7 +1,6 @@
 // One kernel removed in place: survivors' entries are rewritten while the entries of the kernel's darts still stand, and these become 65,535 when all walks have ended.
 use super::Kernel;
 use super::strings::at;
-use super::strings::mark_of;
 use super::strings::next_of;
 use super::strings::removed;
 use answers::ABSENT;
@@ -17,7 +16,7 @@ ghost use Rattle.maps.specs.Removal.{goOn, turnsFrom};
 ghost use Rattle.maps.specs.Mark.{between as betweenOf};
 ghost use Rattle.maps.specs.Table.{entry, each};
 ghost use Rattle.kernels.specs.Strings.{kernelRow, Along, Strings, Marks, Strung};
-ghost use Rattle.kernels.specs.Ready.{Shape, Place, Ready, Followed, relinked, turnsMade, TableIs, Cleared, removedFrom};
+ghost use Rattle.kernels.specs.Ready.{mapOf, rowOf, Shape, Place, Ready, Followed, relinked, turnsMade, TableIs, Cleared, removedFrom};
 
 // The entry of dart d in row i is stored.
 fn put(darts: usize, i: Dim, d: usize, entry: u16, table: &mut [u16])
@@ -49,22 +48,16 @@ struct End {
 }
 
 // From the start, while there is a dart of kernel l whose mark has the first row that the start's has: on by the second row of that mark, then by the first. The rows of a mark are found anew only where it changes.
-fn follow(
-    n: Dim,
-    darts: usize,
-    l: Level,
-    lambda: &[u8],
-    delta: &[u8],
-    table: &[u16],
-    start: Start,
-) -> End
-    requires { ⌜ Marks (n .0) darts (l .0) (now lambda) (now delta) × Followed (n .0) darts (kernelRow (now lambda) (now delta) (l .0)) (now table) ⌝ }
-    requires { ⌜ (start .row .0 ≤ n .0) × (start .dart < darts) × (each (now lambda) (start .dart) ≡ l .0) × (betweenOf (each (now delta) (start .dart)) .0 ≡ start .row .0) ⌝ }
-    ensures { λ r. ⌜ (r .dart ≡ goOn (entry darts (now (table .entry))) (n .0) (kernelRow (now (lambda .entry)) (now (delta .entry)) (l .0)) darts (start .row .0) (start .dart)) × (r .dart < darts) ⌝ }
-    ensures { λ r. ⌜ r .turns ≡ turnsFrom (entry darts (now (table .entry))) (n .0) (kernelRow (now (lambda .entry)) (now (delta .entry)) (l .0)) darts (start .row .0) (start .dart) ⌝ }
+fn follow(kernel: Kernel, lambda: &[u8], delta: &[u8], table: &[u16], start: Start) -> End
+    requires { ⌜ Marks (kernel .n .0) (kernel .darts) (kernel .level .0) (now lambda) (now delta) × Followed (kernel .n .0) (kernel .darts) (rowOf kernel lambda delta) (now table) ⌝ }
+    requires { ⌜ (start .row .0 ≤ kernel .n .0) × (start .dart < kernel .darts) × (each (now lambda) (start .dart) ≡ kernel .level .0) × (betweenOf (each (now delta) (start .dart)) .0 ≡ start .row .0) ⌝ }
+    ensures end { λ r. ⌜ (r .dart ≡ goOn (mapOf kernel (table .entry)) (kernel .n .0) (rowOf kernel (lambda .entry) (delta .entry)) (kernel .darts) (start .row .0) (start .dart)) × (r .dart < kernel .darts) ⌝ }
+    ensures turns { λ r. ⌜ r .turns ≡ turnsFrom (mapOf kernel (table .entry)) (kernel .n .0) (rowOf kernel (lambda .entry) (delta .entry)) (kernel .darts) (start .row .0) (start .dart) ⌝ }
 {
+    let darts = kernel.darts as usize;
+    let l = kernel.level;
     let i = start.row;
-    let mut mark = mark_of(delta, start.dart);
+    let mut mark = answers::delta_at(delta, start.dart);
     let mut rows = answers::between(mark);
     let mut turns = 0;
     let mut e = start.dart;
@@ -74,7 +67,7 @@ fn follow(
         if !removed(lambda, l, e) {
             return End { dart: e, turns };
         }
-        let met = mark_of(delta, e);
+        let met = answers::delta_at(delta, e);
         if met.0 != mark.0 {
             mark = met;
             rows = answers::between(mark);
@@ -94,24 +87,23 @@ fn relink(
     next: &[u16; ROOM],
     table: &mut [u16],
 ) -> usize
-    requires { ⌜ Ready (kernel .n .0) (kernel .darts) (kernelRow (now lambda) (now delta) (kernel .level .0)) (now table) ⌝ }
+    requires { ⌜ Ready (kernel .n .0) (kernel .darts) (rowOf kernel lambda delta) (now table) ⌝ }
     requires { ⌜ Strung (kernel .n .0) (kernel .darts) (kernel .level .0) (kernel .first) (now lambda) (now delta) (now next) ⌝ }
-    ensures answer { λ r. ⌜ r ≡ turnsMade (kernel .n .0) (kernel .darts) (kernelRow (now (lambda .entry)) (now (delta .entry)) (kernel .level .0)) (now (table .entry)) ⌝ }
-    ensures table_left { λ _. ⌜ TableIs (kernel .darts) (relinked (kernel .n .0) (kernel .darts) (kernelRow (now (lambda .entry)) (now (delta .entry)) (kernel .level .0)) (now (table .entry))) (now (table .entry)) (now (table .exit)) ⌝ }
+    ensures answer { λ r. ⌜ r ≡ turnsMade (kernel .n .0) (kernel .darts) (rowOf kernel (lambda .entry) (delta .entry)) (now (table .entry)) ⌝ }
+    ensures table_left { λ _. ⌜ TableIs (kernel .darts) (relinked (kernel .n .0) (kernel .darts) (rowOf kernel (lambda .entry) (delta .entry)) (now (table .entry))) (now (table .entry)) (now (table .exit)) ⌝ }
 {
-    let n = kernel.n;
     let darts = kernel.darts as usize;
     let l = kernel.level;
     let mut turns = 0;
     let mut d = kernel.first as usize;
     while d < darts {
-        let rows = answers::between(mark_of(delta, d));
+        let rows = answers::between(answers::delta_at(delta, d));
         let i = rows.0;
         let b = at(darts, table, i, d);
         if !removed(lambda, l, b) {
             if at(darts, table, i, b) == d {
                 let start = Start { row: i, dart: d };
-                let end = follow(n, darts, l, lambda, delta, table, start);
+                let end = follow(kernel, lambda, delta, table, start);
                 join(darts, i, b, end.dart, table);
                 turns = turns + end.turns;
             }
@@ -145,9 +137,9 @@ fn clear(n: Dim, darts: usize, next: &[u16; ROOM], first: u16, table: &mut [u16]
 
 // The kernel removed in place.
 pub fn remove(kernel: Kernel, lambda: &[u8], delta: &[u8], next: &[u16; ROOM], table: &mut [u16])
-    requires { ⌜ Ready (kernel .n .0) (kernel .darts) (kernelRow (now lambda) (now delta) (kernel .level .0)) (now table) ⌝ }
+    requires { ⌜ Ready (kernel .n .0) (kernel .darts) (rowOf kernel lambda delta) (now table) ⌝ }
     requires { ⌜ Strung (kernel .n .0) (kernel .darts) (kernel .level .0) (kernel .first) (now lambda) (now delta) (now next) ⌝ }
-    ensures { λ _. ⌜ now (table .exit) ≡ removedFrom (kernel .n .0) (kernel .darts) (kernelRow (now (lambda .entry)) (now (delta .entry)) (kernel .level .0)) (now (table .entry)) ⌝ }
+    ensures { λ _. ⌜ now (table .exit) ≡ removedFrom (kernel .n .0) (kernel .darts) (rowOf kernel (lambda .entry) (delta .entry)) (now (table .entry)) ⌝ }
 {
     relink(kernel, lambda, delta, next, table);
     let n = kernel.n;

@@ -1,4 +1,4 @@
-// The darts strung by kernel, and what is read of one dart: whether it is in a kernel, its mark, the next of its kernel, an entry.
+// The darts strung by kernel, and what is read of one dart: whether it is in a kernel, the next of its kernel, an entry.
 use answers::Dim;
 use answers::Level;
 use answers::Mark;
@@ -17,24 +17,16 @@ pub(crate) fn removed(lambda: &[u8], l: Level, d: usize) -> bool
     requires { ⌜ d < length (now lambda) ⌝ }
     ensures { λ r. ⌜ r ≡ eqb (each (now (lambda .entry)) d) (l .0) ⌝ }
 {
-    lambda[d] == l.0
+    answers::in_kernel(answers::lambda_at(lambda, d), l)
 }
 
-// Its mark there.
-pub(crate) fn mark_of(delta: &[u8], d: usize) -> Mark
-    requires { ⌜ d < length (now delta) ⌝ }
-    ensures { λ r. ⌜ r .0 ≡ each (now (delta .entry)) d ⌝ }
-{
-    Mark(delta[d])
-}
-
-// Is dart d in kernel l with this mark?
+// Is it in kernel l with this mark?
 pub(crate) fn in_kernel(lambda: &[u8], delta: &[u8], l: Level, mark: Mark, d: usize) -> bool
     requires { ⌜ (d < length (now lambda)) × (d < length (now delta)) ⌝ }
     ensures { λ r. ⌜ r ≡ (eqb (each (now (lambda .entry)) d) (l .0) && eqb (each (now (delta .entry)) d) (mark .0)) ⌝ }
 {
     if removed(lambda, l, d) {
-        return delta[d] == mark.0;
+        return answers::same_mark(answers::delta_at(delta, d), mark);
     }
     false
 }

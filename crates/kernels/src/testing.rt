@@ -2,7 +2,6 @@
 use super::Kernel;
 use super::strings::at;
 use super::strings::in_kernel;
-use super::strings::mark_of;
 use super::strings::next_of;
 use answers::Check;
 use answers::Dim;
@@ -21,7 +20,7 @@ ghost use Rattle.maps.specs.Table.{entry};
 ghost use Rattle.maps.specs.Check.{differs, check9, check10};
 ghost use Rattle.answers.specs.Numbers.{verdictOf};
 ghost use Rattle.kernels.specs.Strings.{kernelRow, Strung};
-ghost use Rattle.kernels.specs.Ready.{Shape, Place, Tested};
+ghost use Rattle.kernels.specs.Ready.{mapOf, rowOf, Shape, Place, Tested};
 
 // A dart of a kernel, and its mark there.
 struct Marked {
@@ -40,7 +39,7 @@ fn leaving(
 ) -> bool
     requires { ⌜ Place (kernel .darts) (now table) (j .0) (marked .dart) × (marked .mark .0 < stay) ⌝ }
     requires { ⌜ (entry (kernel .darts) (now table) (j .0) (marked .dart) < length (now lambda)) × (entry (kernel .darts) (now table) (j .0) (marked .dart) < length (now delta)) ⌝ }
-    ensures { λ r. ⌜ r ≡ (not (eqb (j .0) (betweenOf (marked .mark .0) .0)) && not (eqb (kernelRow (now (lambda .entry)) (now (delta .entry)) (kernel .level .0) (entry (kernel .darts) (now (table .entry)) (j .0) (marked .dart))) (marked .mark .0))) ⌝ }
+    ensures { λ r. ⌜ r ≡ (not (eqb (j .0) (betweenOf (marked .mark .0) .0)) && not (eqb (rowOf kernel (lambda .entry) (delta .entry) (mapOf kernel (table .entry) (j .0) (marked .dart))) (marked .mark .0))) ⌝ }
 {
     let mark = marked.mark;
     let rows = answers::between(mark);
@@ -60,9 +59,9 @@ pub fn whole(
     next: &[u16; ROOM],
     table: &[u16],
 ) -> Check
-    requires { ⌜ Tested (kernel .n .0) (kernel .darts) (kernelRow (now lambda) (now delta) (kernel .level .0)) (now table) ⌝ }
+    requires { ⌜ Tested (kernel .n .0) (kernel .darts) (rowOf kernel lambda delta) (now table) ⌝ }
     requires { ⌜ Strung (kernel .n .0) (kernel .darts) (kernel .level .0) (kernel .first) (now lambda) (now delta) (now next) ⌝ }
-    ensures { λ r. ⌜ verdictOf r ≡ check9 (entry (kernel .darts) (now (table .entry))) (kernel .n .0) (kernel .darts) (kernelRow (now (lambda .entry)) (now (delta .entry)) (kernel .level .0)) (kernel .level .0) ⌝ }
+    ensures { λ r. ⌜ verdictOf r ≡ check9 (mapOf kernel (table .entry)) (kernel .n .0) (kernel .darts) (rowOf kernel (lambda .entry) (delta .entry)) (kernel .level .0) ⌝ }
 {
     let n = kernel.n;
     let darts = kernel.darts as usize;
@@ -72,7 +71,7 @@ pub fn whole(
     'darts: while d < darts {
         let marked = Marked {
             dart: d,
-            mark: mark_of(delta, d),
+            mark: answers::delta_at(delta, d),
         };
         for j in 0..n.0 + 1 {
             if leaving(kernel, lambda, delta, table, marked, Dim(j)) {
@@ -94,11 +93,7 @@ fn commuting(n: Dim, darts: usize, table: &[u16], mark: Mark, d: usize) -> bool
     let rows = answers::between(mark);
     let near = rows.1;
     let far = answers::beyond(n, mark);
-    let by_near = at(darts, table, near, d);
-    let one = at(darts, table, far, by_near);
-    let by_far = at(darts, table, far, d);
-    let other = at(darts, table, near, by_far);
-    one == other
+    answers::commute(darts as u16, table, near, far, d as u16)
 }
 
 // Number 10: the first dart of the kernel whose own commuting test fails. Whether a mark has a row beyond is found anew only where it changes.
@@ -109,9 +104,9 @@ pub fn fitting(
     next: &[u16; ROOM],
     table: &[u16],
 ) -> Check
-    requires { ⌜ Tested (kernel .n .0) (kernel .darts) (kernelRow (now lambda) (now delta) (kernel .level .0)) (now table) ⌝ }
+    requires { ⌜ Tested (kernel .n .0) (kernel .darts) (rowOf kernel lambda delta) (now table) ⌝ }
     requires { ⌜ Strung (kernel .n .0) (kernel .darts) (kernel .level .0) (kernel .first) (now lambda) (now delta) (now next) ⌝ }
-    ensures { λ r. ⌜ verdictOf r ≡ check10 (entry (kernel .darts) (now (table .entry))) (kernel .n .0) (kernel .darts) (kernelRow (now (lambda .entry)) (now (delta .entry)) (kernel .level .0)) (kernel .level .0) ⌝ }
+    ensures { λ r. ⌜ verdictOf r ≡ check10 (mapOf kernel (table .entry)) (kernel .n .0) (kernel .darts) (rowOf kernel (lambda .entry) (delta .entry)) (kernel .level .0) ⌝ }
 {
     let n = kernel.n;
     let darts = kernel.darts as usize;
@@ -120,7 +115,7 @@ pub fn fitting(
     let mut tested = answers::has_beyond(n, mark);
     let mut d = kernel.first as usize;
     while d < darts {
-        let met = mark_of(delta, d);
+        let met = answers::delta_at(delta, d);
         if met.0 != mark.0 {
             mark = met;
             tested = answers::has_beyond(n, mark);

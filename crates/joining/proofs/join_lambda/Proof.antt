@@ -23,10 +23,10 @@ loop-holds c = (zero-le, row-none _ _)
 
 loop-again : tie.Need-loop-again Inv-loop μ-loop
 loop-again c =
-    let a = c .before .before .before .before .before .args in
-    let l = c .before .before .before .loop in
+    let a = c .before .before .before .before .before .before .args in
+    let l = c .before .before .before .before .loop in
     let row = l .inv .1 in
-    (omega arith, row-set row (omega arith) (c .lambda-joined .result .0) (c .lambda-joined .ensures ∙ ap (λ (x : ℕ). cond (ltb (a .level .0) x) (x - 1) x) (row .rest (l .d) (omega arith))))
+    (omega arith, row-set row (omega arith) (c .lambda-joined .result .0) (c .lambda-joined .ensures ∙ ap (λ (x : ℕ). cond (ltb (a .level .0) x) (x - 1) x) (c .before .lambda-at .ensures ∙ row .rest (l .d) (omega arith))))
 
 same-length : tie.Need-same-length Inv-loop μ-loop
 same-length c = c .before .loop .inv .1 .long

@@ -1,7 +1,10 @@
 -- `joining::join_row` meets its contract. The invariant: the darts passed have their joined Λ. The measure: the darts left. Assumes nothing.
-use Prim.Native.Nat.{_-_, _≤_, zero-le}
+use mathlib.Core.Path.{ap, _∙_}
+use mathlib.Core.Bool.{cond}
+use Prim.Native.Nat.{ℕ, _-_, _≤_, zero-le}
 use native.Mathlib.Omega.{arith}
 use lib.ListN.{length}
+use lib.Dec.{ltb}
 use borrow.Author.Needs.{needs}
 use Rattle.maps.specs.Table.{each}
 use Rattle.maps.specs.Join.{joinΛ}
@@ -21,8 +24,9 @@ loop-holds c = (zero-le, row-none _ _)
 loop-again : tie.Need-loop-again Inv-loop μ-loop
 loop-again c =
     let l = c .before .before .before .loop in
-    let long = c .before .before .before .before .before .before .pre in
-    (omega arith, row-set (l .inv .1) (omega (arith, long)) (c .lambda-joined .result .0) (c .lambda-joined .ensures))
+    let s = c .before .before .before .before .before .before in
+    let is = c .lambda-joined .ensures ∙ ap (λ (x : ℕ). cond (ltb (s .args .level .0) x) (x - 1) x) (c .before .lambda-at .ensures) in
+    (omega arith, row-set (l .inv .1) (omega (arith, s .pre)) (c .lambda-joined .result .0) is)
 
 same-length : tie.Need-same-length Inv-loop μ-loop
 same-length c = c .before .loop .inv .1 .long

@@ -21,10 +21,10 @@ start c = c .before .before .before .before .before .before .before .before
 
 -- the new Λ and Δ
 abbrev new-lambda : tie.After-folded → List ℕ
-new-lambda c = c .folded .last .1 .1 .1 .1 .1 .0
+new-lambda c = c .folded .last .1 .1 .1 .1 .0
 
 abbrev new-delta : tie.After-folded → List ℕ
-new-delta c = c .folded .last .1 .1 .1 .1 .1 .1 .0
+new-delta c = c .folded .last .1 .1 .1 .1 .1 .0
 
 lambda-is : (c : tie.After-folded) → let a = start c .args in new-lambda c ≡ listed (addΛ (a .sizes .n .0) (a .sizes .h .0) (each (now (a .lambda))) (each (now (a .row)))) (a .sizes .darts)
 lambda-is c = let s = start c in c .folded .ensures .0 ∙ ap (listed (addΛ (s .args .sizes .n .0) (s .args .sizes .h .0) (each (now (s .args .lambda))) (each (now (s .args .row))))) (s .pre .1 .0)
@@ -69,7 +69,7 @@ folded-requires c κs =
     let p = s .pre in
     let r = sym (p .1 .0) in
     let b = blank-part (s .args .sizes .darts) (p .0 .0 .darts) ∙ r in
-    (p .0 .1, p .0 .0 .lambda-long ∙ r, p .0 .0 .delta-long ∙ r, b, b)
+    ((p .0 .1, p .0 .0 .lambda-long ∙ r, p .0 .0 .delta-long ∙ r), (b, b))
 
 add-t18 : tie.Need-add-t18
 add-t18 c = search needs

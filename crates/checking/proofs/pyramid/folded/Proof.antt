@@ -32,8 +32,8 @@ returns c =
     let first : tie.After-copy-row = second .before .before .before .before in
     let a = first .before .before .before .before .before .before .before .args in
     let row = now (a .row) in (
-      f .fold-in .ensures .0 ∙ ap (λ (l : List ℕ). listed (addΛ (a .n .0) (a .h .0) (each l) (each row)) (length row)) (first .copy-row .ensures),
-      f .fold-in .ensures .1 ∙ ap (λ (l : List ℕ). listed (addΔ (a .n .0) (each l) (each row)) (length row)) (second .copy-row2 .ensures),
+      f .fold-in .ensures .0 ∙ ap (λ (l : List ℕ). listed (addΛ (a .sizes .n .0) (a .sizes .h .0) (each l) (each row)) (length row)) (first .copy-row .ensures),
+      f .fold-in .ensures .1 ∙ ap (λ (l : List ℕ). listed (addΔ (a .sizes .n .0) (each l) (each row)) (length row)) (second .copy-row2 .ensures),
     )
 
 pub folded-spec : {M : Type 1} → statement M

@@ -16,14 +16,14 @@ use Rattle.kernels.proofs.removing.follow.Statement.{statement}
 use Rattle.kernels.proofs.removing.follow.Tie as tie
 
 abbrev Inv-loop : tie.InvT-loop
-Inv-loop darts l lambda delta table i mark₀ rows₀ turns₀ e₀ mark rows turns e = Following darts (l .0) lambda delta table (i .0) e₀ (mark .0) (rows .1 .0) turns e
+Inv-loop lambda delta table darts l i mark₀ rows₀ turns₀ e₀ mark rows turns e = Following darts (l .0) lambda delta table (i .0) e₀ (mark .0) (rows .1 .0) turns e
 
 abbrev μ-loop : tie.MeasureT-loop
-μ-loop darts l lambda delta table i mark₀ rows₀ turns₀ e₀ mark rows turns e = darts - turns
+μ-loop lambda delta table darts l i mark₀ rows₀ turns₀ e₀ mark rows turns e = darts - turns
 
 -- the entry, from the head of the loop
 abbrev start : tie.At-loop Inv-loop μ-loop → tie.Start Inv-loop μ-loop
-start c = c .before .before .before .before .before .before .before
+start c = c .before .before .before .before .before .before .before .before .before
 
 -- the head of the loop, and the dart met on the first row and then on the second, from where its turn ends
 abbrev head : tie.After-at2 Inv-loop μ-loop → tie.At-loop Inv-loop μ-loop
@@ -32,27 +32,31 @@ head c = c .before .before .before
 abbrev turn : tie.Then2 Inv-loop μ-loop → tie.Else1 Inv-loop μ-loop
 turn c = c .before .before .before .before
 
-met : (c : tie.After-at2 Inv-loop μ-loop) → c .at2 .result < start (head c) .args .darts
+met : (c : tie.After-at2 Inv-loop μ-loop) → c .at2 .result < start (head c) .args .kernel .darts
 met c = let p = start (head c) .pre in turn-dart (p .0 .0) (p .0 .1) (p .1 .0) (head c .loop .inv) (c .before .at .ensures) (c .at2 .ensures)
 
 -- past the first test Λ of the dart met is l
-inside : (c : tie.Else1 Inv-loop μ-loop) → let t = c .before .before in let a = start (head t) .args in eqb (each (now (a .lambda)) (t .at2 .result)) (a .l .0) ≡ true
+inside : (c : tie.Else1 Inv-loop μ-loop) → let t = c .before .before in let a = start (head t) .args in eqb (each (now (a .lambda)) (t .at2 .result)) (a .kernel .level .0) ≡ true
 inside c = sym (c .before .removed .ensures) ∙ not-false _ (c .if1 .left)
 
-mark-of-requires : tie.Need-mark-of-requires Inv-loop μ-loop
-mark-of-requires c κs = let p = c .before .before .before .before .pre in omega (arith, p .0 .0 .delta-long, p .1 .1)
+cast-darts : tie.Need-cast-darts Inv-loop μ-loop
+cast-darts c = search needs
+
+delta-at-requires : tie.Need-delta-at-requires Inv-loop μ-loop
+delta-at-requires c κs = let p = c .before .before .before .before .before .before .pre in omega (arith, p .0 .0 .delta-long, p .1 .1)
 
 between-requires : tie.Need-between-requires Inv-loop μ-loop
 between-requires c κs =
-    let p = c .before .before .before .before .before .pre in
-    follow-byte (p .0 .0) (p .0 .1) (c .before .before .before .before .before .args .start .row .0) _ (p .1 .1) (eq-eqb _ _ (p .1 .2)) (c .mark-of .ensures)
+    let s = c .before .before .before .before .before .before .before in
+    let p = s .pre in
+    follow-byte (p .0 .0) (p .0 .1) (s .args .start .row .0) _ (p .1 .1) (eq-eqb _ _ (p .1 .2)) (c .delta-at .ensures)
 
 loop-holds : tie.Need-loop-holds Inv-loop μ-loop
 loop-holds c =
-    let s = c .before .before .before .before .before .before in
+    let s = c .before .before .before .before .before .before .before .before in
     let p = s .pre in
-    let m = c .before .mark-of .ensures in
-    let all : s .args .darts - 0 ≡ s .args .darts = omega arith in
+    let m = c .before .delta-at .ensures in
+    let all : s .args .kernel .darts - 0 ≡ s .args .kernel .darts = omega arith in
     record { dart = p .1 .1; removed = eq-eqb _ _ (p .1 .2); mark-is = m; first-row = ap (λ (x : ℕ). between x .0) m ∙ p .1 .3; second-row = c .between .ensures .1; fits = omega arith; rest = λ n k w li. rw all (refl, omega arith) }
 
 at-requires : tie.Need-at-requires Inv-loop μ-loop
@@ -74,21 +78,21 @@ returns c =
     let g = turn-leaves (p .0 .0) (p .0 .1) (p .1 .0) (head t .loop .inv) (t .before .at .ensures) (t .at2 .ensures) (t .before .before .loop-test .taken) (sym (c .before .removed .ensures) ∙ not-true _ (c .if1 .taken)) in
     ((sym (g .0), met t), sym (g .1))
 
-mark-of-requires-2 : tie.Need-mark-of-requires-2 Inv-loop μ-loop
-mark-of-requires-2 c κs = let t = c .before .before in omega (arith, met t, start (head t) .pre .0 .0 .delta-long)
+delta-at-requires-2 : tie.Need-delta-at-requires-2 Inv-loop μ-loop
+delta-at-requires-2 c κs = let t = c .before .before in omega (arith, met t, start (head t) .pre .0 .0 .delta-long)
 
 between-requires-2 : tie.Need-between-requires-2 Inv-loop μ-loop
 between-requires-2 c κs =
     let t = turn c .before .before in
     let p = start (head t) .pre in
-    turn-byte (p .0 .0) (p .0 .1) (p .1 .0) (head t .loop .inv) (t .before .at .ensures) (t .at2 .ensures) (t .before .before .loop-test .taken) (inside (turn c)) (c .before .before .before .mark-of2 .ensures)
+    turn-byte (p .0 .0) (p .0 .1) (p .1 .0) (head t .loop .inv) (t .before .at .ensures) (t .at2 .ensures) (t .before .before .loop-test .taken) (inside (turn c)) (c .before .before .before .delta-at2 .ensures)
 
 returns-2 : tie.Need-returns-2 Inv-loop μ-loop
 returns-2 c =
     let b : tie.After-between2 Inv-loop μ-loop = c .before .before .before in
     let t = turn (b .before) .before .before in
     let p = start (head t) .pre in
-    let g = turn-stops (p .0 .0) (p .0 .1) (p .1 .0) (head t .loop .inv) (t .before .at .ensures) (t .at2 .ensures) (t .before .before .loop-test .taken) (inside (turn (b .before))) (b .before .before .before .before .mark-of2 .ensures) (λ e. c .if3 .taken (b .between2 .ensures .0 ∙ e)) in
+    let g = turn-stops (p .0 .0) (p .0 .1) (p .1 .0) (head t .loop .inv) (t .before .at .ensures) (t .at2 .ensures) (t .before .before .loop-test .taken) (inside (turn (b .before))) (b .before .before .before .before .delta-at2 .ensures) (λ e. c .if3 .taken (b .between2 .ensures .0 ∙ e)) in
     ((sym (g .0), met t), sym (g .1))
 
 loop-less : tie.Need-loop-less Inv-loop μ-loop
@@ -99,7 +103,7 @@ loop-again c =
     let b : tie.After-between2 Inv-loop μ-loop = c .before .before .before in
     let t = turn (b .before) .before .before in
     let p = start (head t) .pre in
-    turn-on (p .0 .0) (p .0 .1) (p .1 .0) (head t .loop .inv) (t .before .at .ensures) (t .at2 .ensures) (t .before .before .loop-test .taken) (inside (turn (b .before))) (b .before .before .before .before .mark-of2 .ensures) (sym (b .between2 .ensures .0) ∙ c .if3 .left) (b .between2 .ensures .1)
+    turn-on (p .0 .0) (p .0 .1) (p .1 .0) (head t .loop .inv) (t .before .at .ensures) (t .at2 .ensures) (t .before .before .loop-test .taken) (inside (turn (b .before))) (b .before .before .before .before .delta-at2 .ensures) (sym (b .between2 .ensures .0) ∙ c .if3 .left) (b .between2 .ensures .1)
 
 loop-less-2 : tie.Need-loop-less-2 Inv-loop μ-loop
 loop-less-2 c = search needs
@@ -110,7 +114,7 @@ loop-again-2 c =
     let t = e .before .before in
     let p = start (head t) .pre in
     let s = head t .loop .inv in
-    turn-on (p .0 .0) (p .0 .1) (p .1 .0) s (t .before .at .ensures) (t .at2 .ensures) (t .before .before .loop-test .taken) (inside e) (sym (c .if2 .left) ∙ c .before .before .before .mark-of2 .ensures) (s .first-row) (s .second-row)
+    turn-on (p .0 .0) (p .0 .1) (p .1 .0) s (t .before .at .ensures) (t .at2 .ensures) (t .before .before .loop-test .taken) (inside e) (sym (c .if2 .left) ∙ c .before .before .before .delta-at2 .ensures) (s .first-row) (s .second-row)
 
 returns-3 : tie.Need-returns-3 Inv-loop μ-loop
 unfolding goOn turnsFrom
@@ -118,7 +122,7 @@ returns-3 c =
     let l = c .before .loop in
     let s = start (c .before) in
     let p = s .pre in
-    let z : s .args .darts - l .turns ≡ 0 = omega arith in
+    let z : s .args .kernel .darts - l .turns ≡ 0 = omega arith in
     let g = rw z at (l .inv .rest _ (p .0 .0) (p .0 .1) (p .1 .0)) in
     ((sym (g .0), l .inv .dart), omega (arith, g .1))
 
@@ -128,7 +132,8 @@ follow-spec =
     (tie.spec
     Inv-loop
     μ-loop
-    mark-of-requires
+    cast-darts
+    delta-at-requires
     between-requires
     loop-holds
     at-requires
@@ -136,7 +141,7 @@ follow-spec =
     add-turns
     removed-requires
     returns
-    mark-of-requires-2
+    delta-at-requires-2
     between-requires-2
     returns-2
     loop-less

@@ -18,17 +18,17 @@ use Rattle.kernels.proofs.removing.relink.Statement.{statement}
 use Rattle.kernels.proofs.removing.relink.Tie as tie
 
 abbrev Inv-loop : tie.InvT-loop
-Inv-loop lambda delta next table₀ n darts l turns₀ d₀ table turns d =
-    RelinkTo (n .0) darts (kernelRow lambda delta (l .0)) table₀ table d × (turns ≡ turnsTo (n .0) darts (kernelRow lambda delta (l .0)) table₀ d)
+Inv-loop kernel lambda delta next table₀ darts l turns₀ d₀ table turns d =
+    RelinkTo (kernel .n .0) darts (kernelRow lambda delta (l .0)) table₀ table d × (turns ≡ turnsTo (kernel .n .0) darts (kernelRow lambda delta (l .0)) table₀ d)
 
 abbrev μ-loop : tie.MeasureT-loop
-μ-loop lambda delta next table₀ n darts l turns₀ d₀ table turns d = darts - d
+μ-loop kernel lambda delta next table₀ darts l turns₀ d₀ table turns d = darts - d
 
 -- the entry, from the head of the loop; and the turn, from where its dart leads
 abbrev start : tie.At-loop Inv-loop μ-loop → tie.Start Inv-loop μ-loop
-start c = c .before .before .before .before .before .before .before .before
+start c = c .before .before .before .before .before .before .before
 
-abbrev turn : tie.After-at Inv-loop μ-loop → tie.After-mark-of Inv-loop μ-loop
+abbrev turn : tie.After-at Inv-loop μ-loop → tie.After-delta-at Inv-loop μ-loop
 turn c = c .before .before .before .before
 
 -- where its dart leads, from where the walk is asked for
@@ -36,11 +36,11 @@ abbrev asked : tie.After-follow-arg Inv-loop μ-loop → tie.After-at Inv-loop �
 asked c = c .before .before .before .before .before .before
 
 -- Δ of the dart is its mark
-mark : (c : tie.After-mark-of Inv-loop μ-loop) → let a = start (c .before .before) .args in c .mark-of .result .0 ≡ kernelRow (now (a .lambda)) (now (a .delta)) (a .kernel .level .0) (c .before .before .loop .d)
+mark : (c : tie.After-delta-at Inv-loop μ-loop) → let a = start (c .before .before) .args in c .delta-at .result .0 ≡ kernelRow (now (a .lambda)) (now (a .delta)) (a .kernel .level .0) (c .before .before .loop .d)
 mark c =
     let p = start (c .before .before) .pre in
     let ld = c .before .loop-test .taken in
-    c .mark-of .ensures ∙ mark-is (p .1 .marks) (p .0 .tested .shape .dimension) (c .before .before .loop .d) ld (c .before .before .loop .inv .0 .here ld)
+    c .delta-at .ensures ∙ mark-is (p .1 .marks) (p .0 .tested .shape .dimension) (c .before .before .loop .d) ld (c .before .before .loop .inv .0 .here ld)
 
 -- its first row
 first-row : (c : tie.After-between Inv-loop μ-loop) → let h = c .before .before .before in let a = start h .args in c .between .result .0 .0 ≡ between (kernelRow (now (a .lambda)) (now (a .delta)) (a .kernel .level .0) (h .loop .d)) .0
@@ -65,16 +65,16 @@ cast-d : tie.Need-cast-d Inv-loop μ-loop
 cast-d c = search needs
 
 loop-holds : tie.Need-loop-holds Inv-loop μ-loop
-loop-holds c = let p = c .before .before .before .before .before .before .before .pre in (relink-start (p .0) (p .1 .string), sym (turns-start _ _ _ _ (p .1 .string)))
+loop-holds c = let p = c .before .before .before .before .before .before .pre in (relink-start (p .0) (p .1 .string), sym (turns-start _ _ _ _ (p .1 .string)))
 
-mark-of-requires : tie.Need-mark-of-requires Inv-loop μ-loop
-mark-of-requires c κs = omega (arith, start (c .before) .pre .1 .marks .delta-long)
+delta-at-requires : tie.Need-delta-at-requires Inv-loop μ-loop
+delta-at-requires c κs = omega (arith, start (c .before) .pre .1 .marks .delta-long)
 
 between-requires : tie.Need-between-requires Inv-loop μ-loop
 between-requires c κs =
     let s = start (c .before .before) in
     let z = s .pre .0 .tested .shape .dimension in
-    mark-byte (s .args .kernel .n .0) (c .mark-of .result .0) (omega arith) (rw (mark c) (c .before .before .loop .inv .0 .here (c .before .loop-test .taken)))
+    mark-byte (s .args .kernel .n .0) (c .delta-at .result .0) (omega arith) (rw (mark c) (c .before .before .loop .inv .0 .here (c .before .loop-test .taken)))
 
 at-requires : tie.Need-at-requires Inv-loop μ-loop
 at-requires c κs =
@@ -100,7 +100,7 @@ follow-requires c κs =
     let f = first-row (t .before .before .before) in
     let here = eqb-true _ _ (in-kernel (p .1 .marks) (p .0 .tested .shape .dimension) (i .before .loop .d) ld ∙ v .here ld) in
     let same = sym (t .before .before .before .between .ensures .0) in
-    ((p .1 .marks, relink-followed (p .0) (p .1 .string) v ld f), (dart t .1, ld, here, ap (λ (m : ℕ). between m .0) (sym (turn t .mark-of .ensures)) ∙ same))
+    ((p .1 .marks, relink-followed (p .0) (p .1 .string) v ld f), (dart t .1, ld, here, ap (λ (m : ℕ). between m .0) (sym (turn t .delta-at .ensures)) ∙ same))
 
 join-requires : tie.Need-join-requires Inv-loop μ-loop
 join-requires c κs = let t = asked (c .before .before) in (place-of t _ (dart t .0), place-of t _ (c .before .follow .ensures .0 .1))
@@ -174,7 +174,7 @@ relink-spec =
     cast-darts
     cast-d
     loop-holds
-    mark-of-requires
+    delta-at-requires
     between-requires
     at-requires
     removed-requires

@@ -34,7 +34,7 @@ own : (c : tie.Joined1 Inv-loop μ-loop)
     → let h = turn c .before in
     let a = start h .args in (c .if1 .mark .0 ≡ each (now (a .delta)) (h .loop .d)) × (c .if1 .tested ≡ hasBeyond (a .kernel .n .0) (c .if1 .mark .0))
 own c =
-    let is = c .before .before .before .mark-of .ensures in
+    let is = c .before .before .before .delta-at .ensures in
     let beyond : Mark → Bool = λ m. hasBeyond (start (turn c .before) .args .kernel .n .0) (m .0) in
     ⊎-elim
     (λ w. (ap (λ (m : Mark). m .0) (w .2) ∙ is, w .3 ∙ w .1 .ensures ∙ ap beyond (sym (w .2))))
@@ -53,8 +53,8 @@ cast-d c = search needs
 loop-holds : tie.Need-loop-holds Inv-loop μ-loop
 loop-holds c = let s = c .before .before .before .before .before .before .before .before in (walk-start (s .pre .0) (s .pre .1) (ten-free _ _ _ _ (now (s .args .table))), c .before .has-beyond .ensures)
 
-mark-of-requires : tie.Need-mark-of-requires Inv-loop μ-loop
-mark-of-requires c κs = walk-rooms (c .before .loop .inv .0) (c .loop-test .taken) .0
+delta-at-requires : tie.Need-delta-at-requires Inv-loop μ-loop
+delta-at-requires c κs = walk-rooms (c .before .loop .inv .0) (c .loop-test .taken) .0
 
 has-beyond-requires-2 : tie.Need-has-beyond-requires-2 Inv-loop μ-loop
 has-beyond-requires-2 c κs = search needs
@@ -109,7 +109,7 @@ fitting-spec =
     has-beyond-requires
     cast-d
     loop-holds
-    mark-of-requires
+    delta-at-requires
     has-beyond-requires-2
     commuting-requires
     between-requires

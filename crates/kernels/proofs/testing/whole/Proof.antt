@@ -44,8 +44,8 @@ cast-d c = search needs
 darts-holds : tie.Need-darts-holds Inv-loop μ-loop Inv-darts μ-darts
 darts-holds c = let s = c .before .before .before .before .before .before .before in (walk-start (s .pre .0) (s .pre .1) (nine-free _ _ _ _ (now (s .args .table))), refl)
 
-mark-of-requires : tie.Need-mark-of-requires Inv-loop μ-loop Inv-darts μ-darts
-mark-of-requires c κs = walk-rooms (c .before .darts .inv .0) (c .darts-test .taken) .0
+delta-at-requires : tie.Need-delta-at-requires Inv-loop μ-loop Inv-darts μ-darts
+delta-at-requires c κs = walk-rooms (c .before .darts .inv .0) (c .darts-test .taken) .0
 
 add-j-end : tie.Need-add-j-end Inv-loop μ-loop Inv-darts μ-darts
 add-j-end c = omega (arith, c .before .before .before .darts .inv .0 .tested .shape .dimension)
@@ -61,7 +61,7 @@ leaving-requires c κs =
     let ld = i .darts-test .taken in
     let lj : c .before .loop .j ≤ start i .args .kernel .n .0 = omega arith in
     let le = walk-inside w ld (c .before .loop .j) lj in
-    ((place (w .tested .shape) (c .before .loop .j) (i .before .darts .d) lj ld, walk-marked w ld (c .before .before .before .mark-of .ensures) .1), (omega (arith, w .strung .marks .lambda-long), omega (arith, w .strung .marks .delta-long)))
+    ((place (w .tested .shape) (c .before .loop .j) (i .before .darts .d) lj ld, walk-marked w ld (c .before .before .before .delta-at .ensures) .1), (omega (arith, w .strung .marks .lambda-long), omega (arith, w .strung .marks .delta-long)))
 
 cast-t20 : tie.Need-cast-t20 Inv-loop μ-loop Inv-darts μ-darts
 cast-t20 c = omega (arith, dart (c .before .before .before) .before .darts .inv .0 .tested .shape .darts)
@@ -76,7 +76,7 @@ loop-again : tie.Need-loop-again Inv-loop μ-loop Inv-darts μ-darts
 loop-again c =
     let h : tie.At-loop Inv-loop μ-loop Inv-darts μ-darts = c .before .before .before in
     let i = dart h in
-    let m = h .before .before .mark-of in
+    let m = h .before .before .delta-at in
     (omega arith, nine-stays (i .before .darts .inv .0) (i .darts-test .taken) (m .result .0) (m .ensures) (h .loop .j) (h .loop .inv .1) (sym (c .before .leaving .ensures) ∙ c .if1 .left), h .loop .inv .2)
 
 next-of-requires : tie.Need-next-of-requires Inv-loop μ-loop Inv-darts μ-darts
@@ -89,7 +89,7 @@ darts-again : tie.Need-darts-again Inv-loop μ-loop Inv-darts μ-darts
 darts-again c =
     let h : tie.At-loop Inv-loop μ-loop Inv-darts μ-darts = c .before .before in
     let i = dart h in
-    let m = h .before .before .mark-of in
+    let m = h .before .before .delta-at in
     (nine-passed (i .before .darts .inv .0) (i .darts-test .taken) (m .result .0) (m .ensures) (h .loop .j) (h .loop .inv .1) (omega arith) (c .next-of .ensures), h .loop .inv .2)
 
 returns : tie.Need-returns Inv-loop μ-loop Inv-darts μ-darts
@@ -100,7 +100,7 @@ returns-2 : tie.Need-returns-2 Inv-loop μ-loop Inv-darts μ-darts
 returns-2 c =
     let h : tie.At-loop Inv-loop μ-loop Inv-darts μ-darts = c .before .before .before in
     let i = dart h in
-    let m = h .before .before .mark-of in
+    let m = h .before .before .delta-at in
     nine-leaves (i .before .darts .inv .0) (i .darts-test .taken) (m .result .0) (m .ensures) (h .loop .j) (h .loop .inv .1) (omega arith) (sym (c .before .leaving .ensures) ∙ c .if1 .taken)
 
 pub whole-spec : {M : Type 1} → statement M
@@ -114,7 +114,7 @@ whole-spec =
     cast-darts
     cast-d
     darts-holds
-    mark-of-requires
+    delta-at-requires
     add-j-end
     loop-holds
     leaving-requires
