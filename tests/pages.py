@@ -365,6 +365,18 @@ def cited_differences():
                 yield f"{path.relative_to(ROOT)} cites '{name}', which is no heading of docs/SCOPE.md"
 
 
+# What the region crate may cite of the proofs of crates below it: the files that are there to be cited from outside.
+OUTSIDE = {"facts": "AcceptedWalks", "orbits": "OrbitLaws"}
+
+
+def outside_differences():
+    """The region crate sees only contracts: of facts and orbits its proofs use one file each, and definitions."""
+    for path in sorted((CRATES / "regions").rglob("*.antt")):
+        for crate, name in re.findall(r"^use Rattle·(facts|orbits)\.proofs\.(\w+)", path.read_text(), re.M):
+            if name != OUTSIDE[crate]:
+                yield f"{path.relative_to(ROOT)} uses {name}, from inside {crate}"
+
+
 # ---- functions
 
 
@@ -456,6 +468,7 @@ def differences():
         yield "docs/CRATES.md is not what --write writes"
     yield from header_differences()
     yield from cited_differences()
+    yield from outside_differences()
 
 
 if __name__ == "__main__":
