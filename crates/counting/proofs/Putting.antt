@@ -17,10 +17,9 @@ use Rattle.maps.specs.Sizes.{number1, number2, number3, number4, sizes, hasLeng
 use Rattle.maps.specs.Table.{entry, each}
 use Rattle.maps.specs.Folded.{survives, marks, level, ofParts}
 use Rattle.maps.specs.Accepted.{Accepted}
-use Rattle.maps.specs.Check.{checkPyramid}
-use Rattle.maps.specs.CheckPyramid.{leftBehind, tableAt, checkLent, checkLeaves}
-use Rattle.maps.specs.Census.{CellCount, countAt, countIn, sumAt, CensusTaken, CensusLeaves, CensusPut, CensusPutLeaves, censusLent, censusTable}
-use Rattle.laws.proofs.Verdicts.{and-false}
+use Rattle.maps.specs.CheckPyramid.{checkLent, checkLeaves}
+use Rattle.maps.specs.Census.{CellCount, countAt, countIn, sumAt, CensusTaken, CensusLeaves, CensusPut, CensusPutLeaves, censusFits, censusLent, censusTable}
+use Rattle.laws.proofs.Lent.{with-checks, with-leaves, with-other, with-found}
 use Rattle.facts.proofs.ExactJobs.{check-accepts}
 use Rattle.answers.specs.Lent.{lentOf}
 use Rattle.answers.specs.Numbers.{refusalOf}
@@ -50,38 +49,18 @@ rows-more counts row old new l below e w =
     (λ x lx i li. w .before (5 * x + i) (omega arith) ∙ below x i lx li)
     (λ i li. w .row-put i li ∙ e i)
 
--- what 1, 2, 3 and then 4 leave
-record Early (v : Verdict) : Type 0 where
-  refuses : Refuses v
-  found : (top : List ℕ) (levels : ℕ → List ℕ) (table : List ℕ) → leftBehind top levels table v ≡ table
+-- 1, 2, 3 and then 4 refuse
+early : (first second third : Bool) → Refuses ((when first (refused 1 0 0 0) then (when second (refused 2 0 0 0) then when third (refused 3 0 0 0))) then refused 4 0 0 0)
+early true second third = record { number = 1; level = 0; involution = 0; dart = 0; is = refl }
+early false true third = record { number = 2; level = 0; involution = 0; dart = 0; is = refl }
+early false false true = record { number = 3; level = 0; involution = 0; dart = 0; is = refl }
+early false false false = record { number = 4; level = 0; involution = 0; dart = 0; is = refl }
 
-early : (first second third : Bool) (w : Verdict) → Early ((when first (refused 1 0 0 0) then (when second (refused 2 0 0 0) then when third (refused 3 0 0 0))) then (refused 4 0 0 0 then w))
-unfolding leftBehind
-early true second third w = record { refuses = record { number = 1; level = 0; involution = 0; dart = 0; is = refl }; found = λ top levels table. refl }
-early false true third w = record { refuses = record { number = 2; level = 0; involution = 0; dart = 0; is = refl }; found = λ top levels table. refl }
-early false false true w = record { refuses = record { number = 3; level = 0; involution = 0; dart = 0; is = refl }; found = λ top levels table. refl }
-early false false false w = record { refuses = record { number = 4; level = 0; involution = 0; dart = 0; is = refl }; found = λ top levels table. refl }
-
-sizes-early : (n N h : ℕ) (w : Verdict) → Early (sizes n N h then (number4 false then w))
+sizes-early : (n N h : ℕ) → Refuses (sizes n N h then number4 false)
 unfolding sizes number1 number2 number3 number4
-sizes-early n N h w = early (not (leb 1 n && leb n 4)) (not (leb 1 N && leb N 4096)) (ltb 32 h) w
-
-and-true : (b : Bool) → (b && true) ≡ b
-and-true true = refl
-and-true false = refl
-
--- have the two slices the exact lengths?
-abbrev pub exact : List ℕ → List ℤ → Bool
-exact cells sums = hasLength cells 165 && eqb (length sums) 33
+sizes-early n N h = early (not (leb 1 n && leb n 4)) (not (leb 1 N && leb N 4096)) (ltb 32 h)
 
 module _ (n N h : ℕ) (rows lambda delta table cells : List ℕ) (sums : List ℤ) where
-  -- what the job says where the other four have theirs or not
-  abbrev saying : Bool → Verdict
-  saying b = sizes n N h then (number4 b then checkPyramid (entry N rows) n N h (each lambda) (each delta))
-
-  abbrev others : Bool → Bool
-  others b = hasLength rows (suc n * N) && (hasLength lambda N && (hasLength delta N && b))
-
   abbrev lent : Verdict
   lent = censusLent (ofParts n N h rows lambda delta) table cells sums
 
@@ -95,32 +74,28 @@ module _ (n N h : ℕ) (rows lambda delta table cells : List ℕ) (sums : List �
   refused-left : Refuses lent → Left cells sums
   refused-left x = rw (x .is) (refl, refl)
 
-  module _ (other : exact cells sums ≡ false) where
-    other-is : lent ≡ saying false
-    unfolding censusLent
-    other-is = ap saying (and-false (hasLength rows (suc n * N)) _ (λ p. and-false (hasLength lambda N) _ (λ q. and-false (hasLength delta N) _ (λ r. and-false (hasLength table (suc n * N)) _ (λ s. other)))))
-
-    -- slices of other lengths: 1, 2, 3, and else 4
+  -- slices of other lengths: 1, 2, 3, and else 4
+  module _ (other : censusFits cells sums ≡ false) where
     pub other-lengths : lentOf n N h false ≡ lent
-    unfolding number4
-    other-lengths = sym other-is
+    unfolding censusLent
+    other-lengths = sym (with-other (ofParts n N h rows lambda delta) table (censusFits cells sums) other)
 
     pub other-table : table ≡ censusTable (ofParts n N h rows lambda delta) table cells sums
     unfolding censusTable
-    other-table = sym (ap (leftBehind (tableAt (ofParts n N h rows lambda delta) h) (tableAt (ofParts n N h rows lambda delta)) table) other-is ∙ sizes-early n N h _ .found _ _ _)
+    other-table = sym (with-found (ofParts n N h rows lambda delta) table (censusFits cells sums) other)
 
     pub other-left : Left cells sums
-    other-left = let x = sizes-early n N h (checkPyramid (entry N rows) n N h (each lambda) (each delta)) .refuses in refused-left (record { number = x .number; level = x .level; involution = x .involution; dart = x .dart; is = other-is ∙ x .is })
+    other-left = let x = sizes-early n N h in refused-left (record { number = x .number; level = x .level; involution = x .involution; dart = x .dart; is = sym other-lengths ∙ x .is })
 
-  module _ (same : exact cells sums ≡ true) where
+  module _ (same : censusFits cells sums ≡ true) where
     -- slices of these lengths: the check's verdict
     pub same-verdict : checked ≡ lent
-    unfolding censusLent checkLent
-    same-verdict = sym (ap (λ (b : Bool). saying (others (hasLength table (suc n * N) && b))) same ∙ ap (λ (b : Bool). saying (others b)) (and-true (hasLength table (suc n * N))))
+    unfolding censusLent
+    same-verdict = sym (with-checks (ofParts n N h rows lambda delta) table (censusFits cells sums) same)
 
     pub same-table : checkLeaves (ofParts n N h rows lambda delta) table ≡ censusTable (ofParts n N h rows lambda delta) table cells sums
-    unfolding checkLeaves censusTable
-    same-table = ap (leftBehind (tableAt (ofParts n N h rows lambda delta) h) (tableAt (ofParts n N h rows lambda delta)) table) same-verdict
+    unfolding censusTable
+    same-table = sym (with-leaves (ofParts n N h rows lambda delta) table (censusFits cells sums) same)
 
     pub same-refused : (r : Refusal) → refusalOf r ≡ checked → Left cells sums
     same-refused r e = let x = refusal-refuses r in refused-left (record { number = x .number; level = x .level; involution = x .involution; dart = x .dart; is = sym same-verdict ∙ sym e ∙ x .is })
@@ -147,7 +122,7 @@ module _ (n N h : ℕ) (rows lambda delta table cells : List ℕ) (sums : List �
             rw (taken .census .sum l low ∙ sym (counted-used n N h rows lambda delta table p counts counted l low)) (alternating-fits (countAt counts l) (λ i li. counted-few n N h rows lambda delta table p counts counted .few l i ll li))
 
     -- and it is the census in slices
-    pub put-left : exact cells sums ≡ true → (cells′ : List ℕ) (sums′ : List ℤ) → CellsPut counts cells′ → sums′ ≡ all → Left cells′ sums′
+    pub put-left : censusFits cells sums ≡ true → (cells′ : List ℕ) (sums′ : List ℤ) → CellsPut counts cells′ → sums′ ≡ all → Left cells′ sums′
     put-left same cells′ sums′ w e =
         let is : lent ≡ accepted = sym (fine ∙ same-verdict same) in
         rw is

@@ -4,3 +4,4 @@ pub mod Tables
 pub mod Sizes
 pub mod Marks
 pub mod MarkRows
+pub mod Lent

@@ -20,7 +20,7 @@ use Rattle.maps.specs.ByLevels.{readBase, overLevel, readLevel, byLevels
 use Rattle.maps.specs.Cost.{reads, cost}
 use Rattle.maps.specs.Check.{at5, at6, at7, check5, check6, check7, checkMap, at9, at10, check9, check10, checkKernel, at8, check8, kernelAt, checkKernels, checkPyramid}
 use Rattle.maps.specs.CheckBase.{checkBase, checkExplicit}
-use Rattle.maps.specs.CheckPyramid.{leftBehind, checkLent, checkLeaves}
+use Rattle.maps.specs.CheckPyramid.{leftBehind, checkLent, checkLeaves, checkWith, checkWithLeaves}
 use Rattle.maps.specs.AddLevel.{atRow8, number20, addLent, addHeight, addLambda, addDelta, addLeaves}
 use Rattle.maps.specs.MarksBack.{atMarks8, marksLent, marksLeaves}
 use Rattle.maps.specs.Read.{found, none, question, readLent, readSince, readLentByLevels}
@@ -36,7 +36,7 @@ use Rattle.maps.specs.Decimation.{decimationLent, decimationEmpty, decim
 use Rattle.maps.specs.Census.{censusLent, censusTable}
 use Rattle.maps.specs.Join.{joinLent, joinHeight, joinLambda, joinLeaves}
 use Rattle.maps.specs.NewBase.{kth}
-use Rattle.maps.specs.Rebase.{packed, rebaseSizes, rebaseLent, rebaseDarts, rebaseHeight, rebaseRows, rebaseLambda, rebaseDelta, rebaseOld, rebaseTable}
+use Rattle.maps.specs.Rebase.{packed, rebaseLent, rebaseDarts, rebaseHeight, rebaseRows, rebaseLambda, rebaseDelta, rebaseOld, rebaseTable}
 use Rattle.maps.specs.Regions.{regionsLent, regionsTable}
 use Rattle.maps.specs.Partner.{number2M, outside, edgesBack, had, number21, importLent, exportLent}
 use Rattle.maps.proofs.Small.{one, both, corner, corners, twoSides, apart, star, shorter, unlike, tooHigh, later, sevens}
@@ -280,7 +280,7 @@ pub record SmallJobs : Type 0 where
 
 -- by computation
 pub small-jobs : SmallJobs
-unfolding isMark between hasBeyond beyond scan count sum goOn removal listed explicit foldΛ foldΔ level number1 number2 number3 number4 number11 number13 sizes walkFrom walk sinceOf largest trailFrom trail since latest readBase overLevel readLevel byLevels reads cost at5 at6 at7 check5 check6 check7 checkMap at9 at10 check9 check10 checkKernel at8 check8 kernelAt checkKernels checkPyramid checkBase checkExplicit leftBehind checkLent checkLeaves atRow8 number20 addLent addHeight addLambda addDelta addLeaves atMarks8 marksLent marksLeaves question readLent readSince readLentByLevels atWalk unfoldLent unfoldTotal unfoldSince unfoldLeaves stacked byLevel blocksLeft unfoldAllLent unfoldAllTables unfoldAllCounts unfoldAllSince rowLent rowPart atLambda8 survivorsLent word onesIn ones survivorWords survivorCount markLent field formed recordRows recordLambda recordDelta recordLent takeLent takeRows takeLambda takeDelta takeTable fieldWritten inTwoBytes rowOf rowsWritten written writeLent writeLength writeTable writeLeaves convertLent convertLength convertLeaves decimationLent decimationEmpty decimationFactor decimationTable div ofInt round ofBits censusLent censusTable joinLent joinHeight joinLambda joinLeaves kth packed rebaseSizes rebaseLent rebaseDarts rebaseHeight rebaseRows rebaseLambda rebaseDelta rebaseOld rebaseTable regionsLent regionsTable number2M outside edgesBack had number21 importLent exportLent
+unfolding isMark between hasBeyond beyond scan count sum goOn removal listed explicit foldΛ foldΔ level number1 number2 number3 number4 number11 number13 sizes walkFrom walk sinceOf largest trailFrom trail since latest readBase overLevel readLevel byLevels reads cost at5 at6 at7 check5 check6 check7 checkMap at9 at10 check9 check10 checkKernel at8 check8 kernelAt checkKernels checkPyramid checkBase checkExplicit leftBehind checkLent checkWith checkWithLeaves checkLeaves atRow8 number20 addLent addHeight addLambda addDelta addLeaves atMarks8 marksLent marksLeaves question readLent readSince readLentByLevels atWalk unfoldLent unfoldTotal unfoldSince unfoldLeaves stacked byLevel blocksLeft unfoldAllLent unfoldAllTables unfoldAllCounts unfoldAllSince rowLent rowPart atLambda8 survivorsLent word onesIn ones survivorWords survivorCount markLent field formed recordRows recordLambda recordDelta recordLent takeLent takeRows takeLambda takeDelta takeTable fieldWritten inTwoBytes rowOf rowsWritten written writeLent writeLength writeTable writeLeaves convertLent convertLength convertLeaves decimationLent decimationEmpty decimationFactor decimationTable div ofInt round ofBits censusLent censusTable joinLent joinHeight joinLambda joinLeaves kth packed rebaseLent rebaseDarts rebaseHeight rebaseRows rebaseLambda rebaseDelta rebaseOld rebaseTable regionsLent regionsTable number2M outside edgesBack had number21 importLent exportLent
 small-jobs = record {
   check-base = (refl, refl, refl, refl, refl, refl, refl, refl, refl, refl);
   check-explicit = (refl, refl, refl);

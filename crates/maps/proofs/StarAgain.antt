@@ -12,10 +12,10 @@ use Rattle.maps.specs.Folded.{level, ofParts, Folded}
 use Rattle.maps.specs.Walk.{ended, walkFrom, walk}
 use Rattle.maps.specs.Cost.{reads, cost}
 use Rattle.maps.specs.Check.{at5, at6, at7, check5, check6, check7, checkMap, at9, at10, check9, check10, checkKernel, at8, check8, kernelAt, checkKernels, checkPyramid}
-use Rattle.maps.specs.CheckPyramid.{leftBehind, checkLent, checkLeaves}
+use Rattle.maps.specs.CheckPyramid.{leftBehind, checkLent, checkLeaves, checkWith, checkWithLeaves}
 use Rattle.maps.proofs.Small.{direct, costs, table, both, star}
 use Rattle.maps.specs.NewBase.{kth}
-use Rattle.maps.specs.Rebase.{packed, rebaseSizes, rebaseLent, rebaseDarts, rebaseHeight, rebaseRows, rebaseLambda, rebaseDelta, rebaseOld, rebaseTable}
+use Rattle.maps.specs.Rebase.{packed, rebaseLent, rebaseDarts, rebaseHeight, rebaseRows, rebaseLambda, rebaseDelta, rebaseOld, rebaseTable}
 
 -- a lent slice that holds 0
 abbrev pub zeros : ℕ → List ℕ
@@ -59,7 +59,7 @@ pub record StarAgain : Type 0 where
 
 -- by computation
 pub star-again : StarAgain
-unfolding isMark between hasBeyond beyond scan count sum goOn removal listed explicit level walkFrom walk reads cost number1 number2 number3 number4 number11 sizes at5 at6 at7 check5 check6 check7 checkMap at9 at10 check9 check10 checkKernel at8 check8 kernelAt checkKernels checkPyramid leftBehind kth checkLent checkLeaves packed rebaseSizes rebaseLent rebaseDarts rebaseHeight rebaseRows rebaseLambda rebaseDelta rebaseOld rebaseTable
+unfolding isMark between hasBeyond beyond scan count sum goOn removal listed explicit level walkFrom walk reads cost number1 number2 number3 number4 number11 sizes at5 at6 at7 check5 check6 check7 checkMap at9 at10 check9 check10 checkKernel at8 check8 kernelAt checkKernels checkPyramid leftBehind kth checkLent checkWith checkWithLeaves checkLeaves packed rebaseLent rebaseDarts rebaseHeight rebaseRows rebaseLambda rebaseDelta rebaseOld rebaseTable
 star-again = record {
   verdict = refl;
   darts = refl;

@@ -7,15 +7,13 @@ use Prim.Native.Nat.{ℕ, zero, suc, _+_, _*_, _%_, _≤_, _<_}
 use lib.ListN.{length, getD}
 use lib.Dec.{eqb}
 use lib.IntN.{ℤ, pos, _+ℤ_, _-ℤ_}
-use Rattle.maps.specs.Verdict.{Verdict, accepted, refused, _then_}
+use Rattle.maps.specs.Verdict.{Verdict, accepted, refused}
 use Rattle.maps.specs.Count.{count}
-use Rattle.maps.specs.Sizes.{sizes, number4, hasLength}
+use Rattle.maps.specs.Sizes.{hasLength}
 use Rattle.maps.specs.Map.{Involutions}
 use Rattle.maps.specs.Cell.{Cell}
-use Rattle.maps.specs.Table.{each}
 use Rattle.maps.specs.Folded.{survives, marks, level, Folded, base, lambdaOf, deltaOf}
-use Rattle.maps.specs.Check.{checkPyramid}
-use Rattle.maps.specs.CheckPyramid.{leftBehind, tableAt}
+use Rattle.maps.specs.CheckPyramid.{checkWith, checkWithLeaves}
 
 -- Scope: 'Census'. A dart is the lowest of its i-cell.
 abbrev pub Lowest : Involutions → ℕ → ℕ → ℕ → Type 0
@@ -56,8 +54,12 @@ countIn cells l i = getD cells (5 * l + i) 0
 abbrev pub sumAt : List ℤ → ℕ → ℤ
 sumAt sums l = getD sums l (pos 0)
 
+-- Scope: 'Census'. A slice of counts has 165 entries, one of sums 33.
+abbrev pub censusFits : List ℕ → List ℤ → Bool
+censusFits cells sums = hasLength cells 165 && eqb (length sums) 33
+
 module _ (f : Folded) where
-  open Folded f using (n, N, h, rows, lambda, delta)
+  open Folded f using (n, N, h)
 
   -- Scope: 'Census'. The census of what is lent.
   abbrev pub CensusOf : (ℕ → ℕ → ℕ) → (ℕ → ℤ) → Type 0
@@ -89,11 +91,8 @@ module _ (f : Folded) where
   module _ (table cells : List ℕ) (sums : List ℤ) where
     -- Scope: 'Census'. The check's tests; 4 also where the slice of counts has not 165 entries, or that of sums not 33.
     unfoldable pub censusLent : Verdict
-    censusLent =
-        sizes n N h
-        then (number4 (hasLength rows (suc n * N) && (hasLength lambda N && (hasLength delta N && (hasLength table (suc n * N) && (hasLength cells 165 && eqb (length sums) 33)))))
-        then checkPyramid (base f) n N h (lambdaOf f) (deltaOf f))
+    censusLent = checkWith f table (censusFits cells sums)
 
     -- Scope: 'Left behind'. What is left in the lent table, as by a check.
     unfoldable pub censusTable : List ℕ
-    censusTable = leftBehind (tableAt f h) (tableAt f) table censusLent
+    censusTable = checkWithLeaves f table (censusFits cells sums)

@@ -1,5 +1,5 @@
 -- Check a whole pyramid, with one lent table. Assumes nothing: these are definitions.
-use mathlib.Core.Bool.{cond, _&&_, _||_}
+use mathlib.Core.Bool.{Bool, cond, _&&_, _||_}
 use mathlib.Core.List.{List}
 use Prim.Native.Nat.{ℕ, suc, _*_}
 use lib.Dec.{eqb}
@@ -30,3 +30,12 @@ module _ (f : Folded) (table : List ℕ) where
   -- Scope: 'Check a pyramid'. What is left in the lent table; accepted, level h.
   unfoldable pub checkLeaves : List ℕ
   checkLeaves = leftBehind (tableAt f h) (tableAt f) table checkLent
+
+module _ (f : Folded) (table : List ℕ) (others : Bool) where
+  -- Scope: 'What is lent and asked'. The check's tests, with what else is lent measured too. 4 has no fields, so which slice is measured first makes no difference.
+  unfoldable pub checkWith : Verdict
+  checkWith = sizes (f .n) (f .N) (f .h) then (number4 others then checkLent f table)
+
+  -- Scope: 'Left behind'. What is left in the lent table: what the check leaves; as found where another slice has not its length.
+  unfoldable pub checkWithLeaves : List ℕ
+  checkWithLeaves = cond others (checkLeaves f table) table

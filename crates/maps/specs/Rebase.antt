@@ -4,31 +4,26 @@ use mathlib.Core.List.{List}
 use Prim.Native.Nat.{ℕ, suc, _*_, _/_, _%_}
 use lib.Dec.{eqb, ltb}
 use Rattle.maps.specs.Verdict.{Verdict, refused, when, ifAccepted, _then_}
-use Rattle.maps.specs.Sizes.{sizes, number4, number11, hasLength}
+use Rattle.maps.specs.Sizes.{number11, hasLength}
 use Rattle.maps.specs.Mark.{stay}
 use Rattle.maps.specs.Table.{listed, absent}
 use Rattle.maps.specs.Folded.{Folded, base, lambdaOf, deltaOf}
-use Rattle.maps.specs.CheckPyramid.{checkLent, checkLeaves}
+use Rattle.maps.specs.CheckPyramid.{checkWith, checkWithLeaves}
 use Rattle.maps.specs.NewBase.{oldNumber, newDarts, newHeight, newΛ, newΔ, newBase}
 
 -- the first m of `size` entries are packed, the entries behind them hold the filler
 unfoldable pub packed : (ℕ → ℕ) → ℕ → ℕ → ℕ → List ℕ
 packed value m filler size = listed (λ x. cond (ltb x m) (value x) filler) size
 
--- Scope: 'Start again from a higher level'. 1, 2, 3, and 4 of the row of old numbers; 4 has no fields, so it is one number with that of the other slices.
-unfoldable pub rebaseSizes : Folded → List ℕ → Verdict
-rebaseSizes f old = sizes (f .n) (f .N) (f .h) then number4 (hasLength old (f .N))
-
 module _ (f : Folded) (table : List ℕ) (l : ℕ) (old : List ℕ) where
   open Folded f using (n, N, h, rows, lambda, delta)
 
-  -- Scope: 'Start again from a higher level'. Then the check's own, then 11, then 2 if level l has no dart.
+  -- Scope: 'Start again from a higher level'. The check's tests, the row of old numbers measured with the others; then 11, then 2 if level l has no dart.
   unfoldable pub rebaseLent : Verdict
   rebaseLent =
-      rebaseSizes f old
-      then (checkLent f table
+      checkWith f table (hasLength old N)
       then (number11 h l 0 0
-      then when (eqb (newDarts N (lambdaOf f) l) 0) (refused 2 0 0 0)))
+      then when (eqb (newDarts N (lambdaOf f) l) 0) (refused 2 0 0 0))
 
   -- Scope: 'Start again from a higher level'. N becomes the survivors' count; refused, as given.
   unfoldable pub rebaseDarts : ℕ
@@ -59,4 +54,4 @@ module _ (f : Folded) (table : List ℕ) (l : ℕ) (old : List ℕ) where
 
   -- Scope: 'Start again from a higher level'. The lent table is left as the check leaves it, also after 11 or 2.
   unfoldable pub rebaseTable : List ℕ
-  rebaseTable = ifAccepted (rebaseSizes f old) (checkLeaves f table) table
+  rebaseTable = checkWithLeaves f table (hasLength old N)

@@ -1,5 +1,5 @@
 -- The verdict of starting again, test by test, and what it leaves in the table. Assumes nothing.
-use mathlib.Core.Path.{_≡_, refl, sym, _∙_}
+use mathlib.Core.Path.{_≡_, sym, ap, _∙_}
 use mathlib.Core.List.{List}
 use Prim.Native.Nat.{ℕ, _≤_, _<_}
 use native.Mathlib.Omega.{arith}
@@ -9,16 +9,17 @@ use borrow.Author.Tests.{ltb-false, lt-ltb, le-ltb, eqb-true, eqb-false, eq-eqb,
 use Rattle.maps.specs.Verdict.{Verdict, accepted, refused, when, _then_}
 use Rattle.maps.specs.Sizes.{sizes, number4, number11, hasLength}
 use Rattle.maps.specs.Table.{each}
-use Rattle.maps.specs.CheckPyramid.{checkLent, checkLeaves}
+use Rattle.maps.specs.CheckPyramid.{checkLent, checkLeaves, checkWith}
 use Rattle.maps.specs.NewBase.{newDarts}
-use Rattle.maps.specs.Rebase.{rebaseSizes, rebaseLent, rebaseTable}
-use Rattle.laws.proofs.Verdicts.{then-accepted, when-accepted}
+use Rattle.maps.specs.Rebase.{rebaseLent, rebaseTable}
+use Rattle.laws.proofs.Verdicts.{not-refused, then-accepted, then-two, when-accepted}
 use Rattle.laws.proofs.Sizes.{lengths-exact}
+use Rattle.laws.proofs.Lent.{with-leaves, with-lent}
 use Rattle.maps.specs.Folded.{ofParts}
 use Rattle.answers.specs.Numbers.{refusalOf}
 use Rattle.answers.specs.Lent.{lentOf}
 use Rattle.answers.specs.declared.Refusal.{Refusal}
-use Rattle.answers.proofs.Refusals.{refusal-keeps, refused-then}
+use Rattle.answers.proofs.Refusals.{refusal-refuses, refused-then}
 
 module _ (n N h : ℕ) (rows lambda delta table : List ℕ) (l : ℕ) (old : List ℕ) where
   abbrev D : ℕ
@@ -36,13 +37,12 @@ module _ (n N h : ℕ) (rows lambda delta table : List ℕ) (l : ℕ) (old : Lis
   abbrev Z : Verdict
   Z = when (eqb D 0) (refused 2 0 0 0)
 
-  sizes-are : rebaseSizes (ofParts n N h rows lambda delta) old ≡ S
-  unfolding rebaseSizes
-  sizes-are = refl
-
   tests : rebaseLent (ofParts n N h rows lambda delta) table l old ≡ (S then (C then (L then Z)))
-  unfolding rebaseLent rebaseSizes
-  tests = refl
+  unfolding rebaseLent checkWith
+  tests =
+      let s = sizes n N h in
+      let x = number4 (hasLength old N) in
+      ap (λ (v : Verdict). v then (L then Z)) (then-two s x C) ∙ sym (then-two (s then x) C (L then Z))
 
   -- all tests passed
   pub record Passed : Type 0 where
@@ -75,12 +75,16 @@ module _ (n N h : ℕ) (rows lambda delta table : List ℕ) (l : ℕ) (old : Lis
   -- 1 to 4 of the row of old numbers
   pub sizes-refused : (r : Refusal) → refusalOf r ≡ S → Answers (refusalOf r) table
   unfolding rebaseTable
-  sizes-refused r e = (refused-then r S (C then (L then Z)) e ∙ sym tests, refusal-keeps r (rebaseSizes (ofParts n N h rows lambda delta) old) (checkLeaves (ofParts n N h rows lambda delta) table) table (e ∙ sym sizes-are))
+  sizes-refused r e =
+      let x = refusal-refuses r in
+      (refused-then r S (C then (L then Z)) e ∙ sym tests, sym (with-lent (ofParts n N h rows lambda delta) table (hasLength old N) (λ q. not-refused (sym (x .is) ∙ e ∙ q))))
 
   module _ (s : accepted ≡ S) {after : List ℕ} (leaves : after ≡ checkLeaves (ofParts n N h rows lambda delta) table) where
     left : after ≡ rebaseTable (ofParts n N h rows lambda delta) table l old
     unfolding rebaseTable
-    left = rw (sizes-are, ← s) leaves
+    left =
+        let fit = lengths-exact (hasLength old N) (then-accepted (sizes n N h) (number4 (hasLength old N)) (sym s) .1) in
+        leaves ∙ sym (with-leaves (ofParts n N h rows lambda delta) table (hasLength old N) fit)
 
     -- the check's own
     pub check-refused : (r : Refusal) → refusalOf r ≡ C → Answers (refusalOf r) after

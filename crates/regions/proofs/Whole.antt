@@ -1,6 +1,6 @@
 -- Laws of a whole naming: what is answered and left behind, test by test. Assumes nothing.
-use mathlib.Core.Path.{_≡_, refl, sym, _∙_}
-use mathlib.Core.Bool.{true, false, _&&_}
+use mathlib.Core.Path.{_≡_, refl, sym, ap, _∙_}
+use mathlib.Core.Bool.{true, false}
 use mathlib.Core.List.{List}
 use Prim.Native.Nat.{ℕ, suc, _*_, _≤_, _<_}
 use lib.ListN.{length}
@@ -8,11 +8,10 @@ use borrow.Author.Tests.{lt-ltb, le-ltb}
 use Rattle.maps.specs.Verdict.{Verdict, accepted, refused, _then_, scan}
 use Rattle.maps.specs.Sizes.{sizes, number4, number11, hasLength}
 use Rattle.maps.specs.Table.{entry, each}
-use Rattle.maps.specs.Check.{checkPyramid}
 use Rattle.maps.specs.CheckPyramid.{checkLent, checkLeaves}
 use Rattle.maps.specs.Accepted.{Accepted}
 use Rattle.maps.specs.Regions.{at23, regionsLent, regionsTable, RegionsLeave}
-use Rattle.laws.proofs.Verdicts.{then-two, then-three}
+use Rattle.laws.proofs.Lent.{then-stops, with-checks, with-leaves, with-other, with-found}
 use Rattle.maps.specs.Folded.{ofParts}
 use Rattle.facts.proofs.AcceptedWalks.{check-accepts}
 use Rattle.answers.specs.Numbers.{refusalOf}
@@ -43,15 +42,13 @@ module _ (n N h : ℕ) (rows lambda delta table : List ℕ) (l : ℕ) (names : L
   -- a name row of another length
   pub not-long : hasLength names N ≡ false → Answers (lentOf n N h false) table names
   unfolding regionsLent regionsTable number4
-  not-long q = let v : verdict ≡ lentOf n N h false = first (sizes n N h) in (sym v, rw q refl, leaves (sizes n N h) v)
+  not-long q =
+      let fitting = hasLength names N in
+      let rest = number11 h l 0 0 then scan N (at23 (each delta)) in
+      let e : verdict ≡ (sizes n N h then number4 false) then rest = ap (λ (v : Verdict). v then rest) (with-other (ofParts n N h rows lambda delta) table fitting q) in
+      let v : verdict ≡ lentOf n N h false = e ∙ then-stops (sizes n N h) rest in
+      (sym v, sym (with-found (ofParts n N h rows lambda delta) table fitting q), leaves (sizes n N h) v)
     where
-      rest : Verdict
-      rest = checkPyramid (entry N rows) n N h (each lambda) (each delta) then (number11 h l 0 0 then scan N (at23 (each delta)))
-
-      first : (s : Verdict) → (s then (number4 (hasLength names N && (hasLength rows (suc n * N) && (hasLength lambda N && (hasLength delta N && hasLength table (suc n * N))))) then rest)) ≡ (s then number4 false)
-      first accepted = rw q refl
-      first (refused k m i d) = refl
-
       leaves : (s : Verdict) → verdict ≡ (s then number4 false) → RegionsLeave (ofParts n N h rows lambda delta) l names verdict names
       leaves accepted e = found 4 0 0 0 e
       leaves (refused k m i d) e = found k m i d e
@@ -59,16 +56,11 @@ module _ (n N h : ℕ) (rows lambda delta table : List ℕ) (l : ℕ) (names : L
   module _ (fit : hasLength names N ≡ true) where
     left : checkLeaves (ofParts n N h rows lambda delta) table ≡ regionsTable (ofParts n N h rows lambda delta) table l names
     unfolding regionsTable
-    left = rw fit
+    left = sym (with-leaves (ofParts n N h rows lambda delta) table (hasLength names N) fit)
 
     tests : verdict ≡ (checkLent (ofParts n N h rows lambda delta) table then (number11 h l 0 0 then scan N (at23 (each delta))))
-    unfolding regionsLent checkLent
-    tests =
-        let exact = hasLength rows (suc n * N) && (hasLength lambda N && (hasLength delta N && hasLength table (suc n * N))) in
-        let checked = checkPyramid (entry N rows) n N h (each lambda) (each delta) in
-        let rest = number11 h l 0 0 then scan N (at23 (each delta)) in
-        let all : ((sizes n N h then number4 exact) then checked) then rest ≡ (sizes n N h then (number4 exact then checked)) then rest = rw (then-two (sizes n N h) (number4 exact) checked) in
-        rw fit (then-three (sizes n N h) (number4 exact) checked rest ∙ all)
+    unfolding regionsLent
+    tests = ap (λ (v : Verdict). v then (number11 h l 0 0 then scan N (at23 (each delta)))) (with-checks (ofParts n N h rows lambda delta) table (hasLength names N) fit)
 
     -- what the check refuses
     pub check-refused : (r : Refusal) → refusalOf r ≡ checkLent (ofParts n N h rows lambda delta) table → Answers (refusalOf r) (checkLeaves (ofParts n N h rows lambda delta) table) names

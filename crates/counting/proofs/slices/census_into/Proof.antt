@@ -9,10 +9,11 @@ use borrow.Author.Tests.{eqb-true, not-true, not-false}
 use mathlib.Core.Bool.{true, false}
 use Rattle.maps.specs.Verdict.{accepted}
 use Rattle.maps.specs.CheckPyramid.{checkLent}
+use Rattle.maps.specs.Census.{censusFits}
 use Rattle.laws.proofs.Verdicts.{and-both}
 use Rattle.answers.specs.Pyramid.{given}
 use Rattle.answers.proofs.Refusals.{told}
-use Rattle.counting.proofs.Putting.{exact, other-lengths, other-table, other-left, same-verdict, same-table, same-refused, all-fit, put-left}
+use Rattle.counting.proofs.Putting.{other-lengths, other-table, other-left, same-verdict, same-table, same-refused, all-fit, put-left}
 use Rattle.counting.proofs.slices.census_into.Statement.{statement}
 use Rattle.counting.proofs.slices.census_into.Tie as tie
 
@@ -24,7 +25,7 @@ start c = c .before .before .before .before .before .before
 abbrev going-on : tie.After-census → tie.Else1
 going-on c = c .before .before .before .before .before
 
-same : (c : tie.Else1) → let a = start (c .before) .args in exact (now (a .cells)) (now (a .sums)) ≡ true
+same : (c : tie.Else1) → let a = start (c .before) .args in censusFits (now (a .cells)) (now (a .sums)) ≡ true
 same c = sym (c .before .both .ensures) ∙ not-false (c .before .both .result) (c .if1 .left)
 
 -- where the job has answered
@@ -39,7 +40,7 @@ returns : tie.Need-returns
 returns c =
     let b = c .before .before in
     let a = start b .args in
-    let other : exact (now (a .cells)) (now (a .sums)) ≡ false = sym (b .both .ensures) ∙ not-true (b .both .result) (c .before .if1 .taken) in
+    let other : censusFits (now (a .cells)) (now (a .sums)) ≡ false = sym (b .both .ensures) ∙ not-true (b .both .result) (c .before .if1 .taken) in
     (c .lent .ensures ∙ other-lengths (a .n .0) (a .darts) (a .h .0) (now (a .rows)) (now (a .lambda)) (now (a .delta)) (now (a .table)) (now (a .cells)) (now (a .sums)) other, (other-table (a .n .0) (a .darts) (a .h .0) (now (a .rows)) (now (a .lambda)) (now (a .delta)) (now (a .table)) (now (a .cells)) (now (a .sums)) other, other-left (a .n .0) (a .darts) (a .h .0) (now (a .rows)) (now (a .lambda)) (now (a .delta)) (now (a .table)) (now (a .cells)) (now (a .sums)) other))
 
 returns-2 : tie.Need-returns-2
