@@ -9,7 +9,7 @@ ghost use Prim.Native.Nat.{_+_, _*_, _≤_, _<_};
 ghost use lib.ListN.{length};
 ghost use lib.Dec.{eqb, ltb};
 ghost use Rattle.maps.specs.Table.{entry, each};
-ghost use Rattle.maps.specs.CheckBase.{present};
+ghost use Rattle.maps.specs.Explicit.{present};
 ghost use Rattle.maps.specs.Folded.{survivors};
 ghost use Rattle.answers.specs.Rows.{Corner};
 

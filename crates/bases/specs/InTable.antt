@@ -7,7 +7,7 @@ use Rattle.maps.specs.Verdict.{Verdict, _then_}
 use Rattle.maps.specs.Sizes.{sizes, number4, hasLength}
 use Rattle.maps.specs.Table.{entry}
 use Rattle.maps.specs.Check.{strays, notTwice, notCommuting, check5, check6, check7, checkMap}
-use Rattle.maps.specs.CheckBase.{present}
+use Rattle.maps.specs.Explicit.{present}
 
 -- row i of N entries lies in the table, which is no longer than 5 rows of 4,096
 pub record Row (N : ℕ) (table : List ℕ) (i : ℕ) : Type 0 where

@@ -12,7 +12,7 @@ use Rattle.maps.specs.Mark.{stay}
 use Rattle.maps.specs.Orbit.{Orbit, here}
 use Rattle.maps.specs.Kernel.{Removable}
 use Rattle.maps.specs.Table.{entry, each, listed}
-use Rattle.maps.specs.CheckBase.{present}
+use Rattle.maps.specs.Explicit.{present}
 use Rattle.maps.specs.MarkCells.{Marked, CellsMarked}
 use Rattle.laws.proofs.Verdicts.{and-both}
 use Rattle.laws.proofs.Tables.{length-listed, getD-listed}

@@ -13,7 +13,7 @@ use Rattle.maps.specs.Orbit.{here}
 use Rattle.maps.specs.Parts.{besides, Part}
 use Rattle.maps.specs.Kernel.{Removable}
 use Rattle.maps.specs.Table.{entry}
-use Rattle.maps.specs.CheckBase.{present}
+use Rattle.maps.specs.Explicit.{present}
 use Rattle.maps.specs.MarkCells.{WouldBeMarked}
 use Rattle.laws.proofs.Verdicts.{and-both}
 use Rattle.orbits.specs.Orbits.{Closed, Added}

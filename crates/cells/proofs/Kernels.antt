@@ -13,14 +13,13 @@ use Rattle.maps.specs.Mark.{isMark, contracts}
 use Rattle.maps.specs.Kernel.{Kernel}
 use Rattle.maps.specs.Table.{entry, each}
 use Rattle.maps.specs.Check.{checkKernel}
-use Rattle.maps.specs.CheckBase.{present}
+use Rattle.maps.specs.Explicit.{present, There}
 use Rattle.maps.specs.Folded.{levelTable, ofParts}
 use Rattle.maps.specs.CheckPyramid.{checkLent, checkLeaves}
 use Rattle.maps.specs.AddLevel.{addLent}
 use Rattle.maps.specs.MarkCells.{Marked, CellsMarked, markLent, MarkLeaves}
 use Rattle.laws.proofs.Marks.{is-removal, stay-none, removed-rows}
 use Rattle.facts.proofs.Commuting.{commutes-kernel}
-use Rattle.maps.specs.Explicit.{There}
 use Rattle.facts.proofs.Checks.{sound-kernel}
 use Rattle.facts.proofs.AcceptedJobs.{accepted-table}
 use Rattle.facts.proofs.ExactJobs.{top-row-added}

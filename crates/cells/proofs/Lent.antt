@@ -10,7 +10,8 @@ use Rattle.maps.specs.Verdict.{Verdict, accepted, refused, when, _then_}
 use Rattle.maps.specs.Sizes.{sizes, number4, hasLength}
 use Rattle.maps.specs.Table.{entry}
 use Rattle.maps.specs.Check.{checkMap}
-use Rattle.maps.specs.CheckBase.{present, checkExplicit}
+use Rattle.maps.specs.CheckBase.{checkExplicit}
+use Rattle.maps.specs.Explicit.{present}
 use Rattle.maps.specs.MarkCells.{markLent, MarkLeaves}
 use Rattle.laws.proofs.Verdicts.{when-accepted, then-accepted, then-two}
 use Rattle.laws.proofs.Sizes.{Sized, lent-sized, both-equal}

@@ -15,7 +15,7 @@ use Rattle.maps.specs.Orbit.{here, further}
 use Rattle.maps.specs.Parts.{Piece}
 use Rattle.maps.specs.Mark.{isMark, stay}
 use Rattle.maps.specs.Table.{entry, each}
-use Rattle.maps.specs.CheckBase.{present}
+use Rattle.maps.specs.Explicit.{present}
 use Rattle.maps.specs.Folded.{On, survives, marks, addΛ, level, levelTable, ofParts}
 use Rattle.maps.specs.CheckPyramid.{checkLent, checkLeaves}
 use Rattle.maps.specs.AddLevel.{addLambda}

@@ -14,7 +14,7 @@ use Rattle.maps.specs.Orbit.{here, further}
 use Rattle.maps.specs.Parts.{Part, Piece}
 use Rattle.maps.specs.Mark.{stay}
 use Rattle.maps.specs.Table.{entry, each}
-use Rattle.maps.specs.CheckBase.{present}
+use Rattle.maps.specs.Explicit.{present}
 use Rattle.maps.specs.MarkCells.{WouldBeMarked, LeftUnmarked, Marked, CellsMarked}
 use Rattle.maps.proofs.Small.{one as segment, corners as square, small-maps}
 use Rattle.laws.proofs.Verdicts.{scan-accepted, when-accepted}

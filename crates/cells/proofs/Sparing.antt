@@ -13,7 +13,7 @@ use Rattle.maps.specs.Cell.{Cell, itself}
 use Rattle.maps.specs.Orbit.{here}
 use Rattle.maps.specs.Parts.{Piece}
 use Rattle.maps.specs.Table.{entry}
-use Rattle.maps.specs.CheckBase.{present}
+use Rattle.maps.specs.Explicit.{present}
 use Rattle.maps.specs.MarkCells.{WouldBeMarked, LeftUnmarked, Marked}
 use Rattle.laws.proofs.Verdicts.{and-both}
 use Rattle.orbits.specs.Orbits.{Closed, Added}

@@ -10,7 +10,7 @@ use Rattle.maps.specs.Kernel.{Removable}
 use Rattle.maps.specs.MarkCells.{WouldBeMarked, Marked, markLent, MarkLeaves}
 use Rattle.maps.specs.Orbit.{Orbit}
 use Rattle.maps.specs.Table.{entry}
-use Rattle.maps.specs.CheckBase.{present}
+use Rattle.maps.specs.Explicit.{present}
 use Rattle.orbits.specs.Search.{has, Room}
 use Rattle.orbits.specs.Orbits.{Closed}
 use Rattle.orbits.specs.Explicit.{but}

@@ -13,7 +13,7 @@ ghost use mathlib.Core.Bool.{true, false, _&&_};
 ghost use Prim.Native.Nat.{ℕ, _+_, _*_, _≤_, _<_};
 ghost use lib.ListN.{length};
 ghost use Rattle.maps.specs.Table.{entry, listed};
-ghost use Rattle.maps.specs.CheckBase.{present};
+ghost use Rattle.maps.specs.Explicit.{present};
 ghost use Rattle.maps.specs.MarkCells.{CellsMarked, markLent};
 ghost use Rattle.answers.specs.Numbers.{verdictOf};
 ghost use Rattle.orbits.specs.Choices.{uses};

@@ -11,8 +11,7 @@ use Rattle.maps.specs.Map.{Involutions, Valid}
 use Rattle.maps.specs.Cell.{Cell}
 use Rattle.maps.specs.Table.{entry, each}
 use Rattle.maps.specs.Folded.{On, survives, marks, level, levelTable, ofParts}
-use Rattle.maps.specs.Explicit.{There}
-use Rattle.maps.specs.CheckBase.{present}
+use Rattle.maps.specs.Explicit.{There, present}
 use Rattle.maps.specs.Accepted.{Accepted}
 use Rattle.maps.specs.CheckPyramid.{checkLent}
 use Rattle.maps.specs.Census.{Lowest, CensusOf}

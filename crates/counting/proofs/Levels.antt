@@ -10,7 +10,7 @@ use Rattle.maps.specs.Map.{Involutions, Valid}
 use Rattle.maps.specs.Cell.{Cell, itself, onward}
 use Rattle.maps.specs.Table.{entry, each}
 use Rattle.maps.specs.Folded.{On, gone, survives, marks, level, levelTable, ofParts}
-use Rattle.maps.specs.CheckBase.{present}
+use Rattle.maps.specs.Explicit.{present, There}
 use Rattle.maps.specs.Pyramid.{Pyramid}
 use Rattle.maps.specs.Accepted.{Accepted}
 use Rattle.maps.specs.Verdict.{accepted, _then_}
@@ -19,7 +19,6 @@ use Rattle.maps.specs.CheckPyramid.{leftBehind}
 use Rattle.maps.specs.Census.{Lowest, CellCount}
 use Rattle.laws.proofs.Tables.{length-explicit}
 use Rattle.laws.proofs.Verdicts.{then-accepted, scan-accepted, scan-all}
-use Rattle.maps.specs.Explicit.{There}
 use Rattle.facts.proofs.Checks.{sound-map, pyramid-check}
 use Rattle.facts.proofs.Levels.{level-valid}
 use Rattle.facts.proofs.Stored.{stored, stored-present, stored-sound}

@@ -12,7 +12,7 @@ use Rattle.maps.specs.Count.{count}
 use Rattle.maps.specs.Cell.{Cell}
 use Rattle.maps.specs.Orbit.{here}
 use Rattle.maps.specs.Table.{entry}
-use Rattle.maps.specs.CheckBase.{present}
+use Rattle.maps.specs.Explicit.{present}
 use Rattle.maps.specs.Census.{Lowest, CellCount}
 use Rattle.laws.proofs.Counting.{minus, minus-other, count-same, count-minus}
 use Rattle.orbits.specs.Orbits.{Closed, Added}

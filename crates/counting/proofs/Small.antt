@@ -12,7 +12,7 @@ use Rattle.maps.specs.Count.{count}
 use Rattle.maps.specs.Map.{Involutions, Valid}
 use Rattle.maps.specs.Cell.{Cell, itself, onward}
 use Rattle.maps.specs.Table.{entry, each, listed, explicit}
-use Rattle.maps.specs.CheckBase.{present}
+use Rattle.maps.specs.Explicit.{present, There}
 use Rattle.maps.specs.Census.{Lowest, CellCount, alternating}
 use Rattle.maps.specs.Mark.{isMark, between, hasBeyond, beyond}
 use Rattle.maps.specs.Removal.{goOn, removal}
@@ -23,7 +23,6 @@ use Rattle.maps.specs.CheckPyramid.{checkLent}
 use Rattle.maps.specs.Check.{at5, at6, at7, check5, check6, check7, checkMap}
 use Rattle.maps.proofs.Small.{star, table, small-maps}
 use Rattle.laws.proofs.Verdicts.{scan-accepted, when-accepted, and-both}
-use Rattle.maps.specs.Explicit.{There}
 use Rattle.facts.proofs.ExactJobs.{check-accepts}
 use Rattle.orbits.specs.Explicit.{ExplicitLevel, but}
 use Rattle.orbits.proofs.Cells.{cell-join, cell-present}

@@ -11,7 +11,7 @@ use Rattle.maps.specs.Cell.{Cell, itself}
 use Rattle.maps.specs.Orbit.{Orbit, here}
 use Rattle.maps.specs.Table.{entry, each}
 use Rattle.maps.specs.Folded.{survives, marks, level, levelTable}
-use Rattle.maps.specs.CheckBase.{present}
+use Rattle.maps.specs.Explicit.{present}
 use Rattle.maps.specs.Accepted.{Accepted}
 use Rattle.maps.specs.Census.{Lowest, CellCount}
 use Rattle.orbits.specs.Search.{has}

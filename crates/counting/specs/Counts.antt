@@ -10,7 +10,7 @@ use Rattle.maps.specs.Count.{count}
 use Rattle.maps.specs.Map.{Involutions}
 use Rattle.maps.specs.Cell.{Cell}
 use Rattle.maps.specs.Table.{entry, each}
-use Rattle.maps.specs.CheckBase.{present}
+use Rattle.maps.specs.Explicit.{present}
 use Rattle.maps.specs.Folded.{survives, marks, level}
 use Rattle.maps.specs.Census.{Lowest, CellCount, alternating, countAt, sumAt}
 use Rattle.orbits.specs.Orbits.{Closed}

@@ -5,7 +5,7 @@ use answers::ROOM;
 use orbits::Search;
 ghost use Prim.Native.Nat.{_≤_};
 ghost use Rattle.maps.specs.Table.{entry};
-ghost use Rattle.maps.specs.CheckBase.{present};
+ghost use Rattle.maps.specs.Explicit.{present};
 ghost use Rattle.maps.specs.Census.{CellCount};
 ghost use Rattle.orbits.specs.Explicit.{ExplicitLevel};
 ghost use Rattle.counting.specs.Counts.{LevelCounted};

@@ -9,12 +9,11 @@ use borrow.Author.Tests.{ltb-true, lt-ltb, eqb-true, eqb-false, eq-eqb, ne-eqb, 
 use Rattle.maps.specs.Verdict.{accepted, refused, when, _then_, scan}
 use Rattle.maps.specs.Map.{Involutions, Valid}
 use Rattle.maps.specs.Mark.{isMark, widest, between, hasBeyond, beyond}
-use Rattle.maps.specs.Kernel.{Kernel}
+use Rattle.maps.specs.Kernel.{Kernel, WholeCells}
 use Rattle.maps.specs.Table.{absent}
 use Rattle.maps.specs.Explicit.{Sound}
 use Rattle.maps.specs.Folded.{On, refusedMarks, marks, level}
 use Rattle.maps.specs.Pyramid.{Pyramid}
-use Rattle.maps.specs.Join.{WholeCells}
 use Rattle.maps.specs.Check.{strays, notTwice, notCommuting, at5, at6, at7, check5, check6, check7, checkMap, leaves, differs, notFitting, at9, at10, check9, check10, checkKernel, at8, check8, kernelAt, checkKernels, checkPyramid}
 use Rattle.laws.proofs.Verdicts.{then-accepted, when-accepted, scan-accepted, scan-all, and-rest, and-both, and-false}
 use Rattle.facts.proofs.Commuting.{kernel-commutes, commutes-kernel}

@@ -17,12 +17,11 @@ use Rattle.maps.specs.Folded.{On, gone, survives, refusedMarks, marks, addΛ, a
 use Rattle.maps.specs.MarkRow.{Row}
 use Rattle.maps.specs.Pyramid.{Pyramid}
 use Rattle.maps.specs.Check.{checkKernel, kernelAt, checkKernels}
-use Rattle.maps.specs.CheckBase.{present}
+use Rattle.maps.specs.Explicit.{present, There, Sound}
 use Rattle.laws.proofs.MarkRows.{taken-is}
 use Rattle.facts.proofs.Levels.{taken-in}
 use Rattle.facts.proofs.Towers.{on-above}
 use Rattle.laws.proofs.Tables.{explicit-of, explicit-same}
-use Rattle.maps.specs.Explicit.{There, Sound}
 use Rattle.facts.proofs.Checks.{checked-kernels, checked-valid, kernel-sound}
 use Rattle.facts.proofs.Stored.{stored-present, stored-sound, stored-check, stored-removal}
 use Rattle.facts.proofs.Adding.{Allowed, removed, never, allowed-cases, level-new}

@@ -14,7 +14,7 @@ use Rattle.maps.specs.Table.{entry, each}
 use Rattle.maps.specs.Folded.{On, refusedMarks, marks, level, levelTable, ofParts, Folded}
 use Rattle.maps.specs.Check.{check8, checkMap, checkKernel, checkKernels, checkPyramid}
 use Rattle.maps.specs.Sizes.{number1, number2, number3, number4, hasLength, sizes}
-use Rattle.maps.specs.CheckBase.{present}
+use Rattle.maps.specs.Explicit.{present}
 use Rattle.maps.specs.CheckPyramid.{checkLent}
 use Rattle.maps.specs.AddLevel.{refusedMark, atRow8, number20, addLent}
 use Rattle.maps.specs.Accepted.{Accepted, Addable}

@@ -8,7 +8,7 @@ use borrow.Author.Tests.{ltb-true, ltb-false, lt-ltb, le-ltb, not-true}
 use Rattle.maps.specs.Verdict.{accepted}
 use Rattle.maps.specs.Map.{Involutions}
 use Rattle.maps.specs.Mark.{isMark, between}
-use Rattle.maps.specs.Kernel.{Kernel}
+use Rattle.maps.specs.Kernel.{Kernel, WholeCells}
 use Rattle.maps.specs.Removal.{removal}
 use Rattle.maps.specs.Table.{explicit}
 use Rattle.maps.specs.Folded.{On, survives, refusedMarks, marks, level, levelTable}
@@ -20,7 +20,7 @@ use Rattle.facts.proofs.Levels.{low, high, taken-in, pyramid-tower, lev
 use Rattle.facts.proofs.Agreement.{kernel-same}
 use Rattle.facts.proofs.Adding.{Allowed, removed, never, allowed-cases, cases-allowed}
 use Rattle.facts.proofs.Checks.{check9-whole, sound-kernel}
-use Rattle.maps.specs.Join.{joinΛ, WholeCells}
+use Rattle.maps.specs.Join.{joinΛ}
 use Rattle.facts.proofs.Splits.{Whole}
 use Rattle.facts.proofs.Towers.{inKernel, floor, Tower}
 use Rattle.facts.proofs.TowerJoins.{Falls, stays, falls, falls-at, kernel-lower, on-lower, on-upper, on-raised, on-kept, tower-joins}

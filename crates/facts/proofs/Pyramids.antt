@@ -5,10 +5,9 @@ use Prim.Native.Nat.{ℕ, _≤_, _<_}
 use native.Mathlib.Omega.{arith}
 use Rattle.maps.specs.Map.{Involutions}
 use Rattle.maps.specs.Mark.{widest, between}
-use Rattle.maps.specs.Kernel.{Kernel}
+use Rattle.maps.specs.Kernel.{Kernel, WholeCells}
 use Rattle.maps.specs.Folded.{On, refusedMarks, marks, level}
 use Rattle.maps.specs.Pyramid.{Pyramid}
-use Rattle.maps.specs.Join.{WholeCells}
 use Rattle.laws.proofs.Marks.{same-mark}
 use Rattle.facts.proofs.Removals.{Passing}
 use Rattle.laws.proofs.MarkRows.{taken, taken-is}

@@ -21,7 +21,7 @@ use Rattle.maps.specs.Check.{at5, at6, at7, check5, check6, check7, checkMap, a
 use Rattle.maps.specs.CheckPyramid.{leftBehind}
 use Rattle.maps.specs.Accepted.{Addable}
 use Rattle.maps.specs.AddLevel.{atRow8, number20, addLent, addLambda, addDelta, addLeaves}
-use Rattle.maps.specs.Join.{together}
+use Rattle.maps.specs.Split.{together}
 use Rattle.maps.proofs.Small.{corners}
 use Rattle.maps.proofs.Names.{every, every-at}
 use Rattle.laws.proofs.Tables.{length-listed, getD-listed, listed-same, explicit-same}

@@ -5,7 +5,7 @@ use Prim.Native.Nat.{ℕ, suc, _≤_, _<_}
 use Rattle.maps.specs.Verdict.{accepted}
 use Rattle.maps.specs.Map.{Involutions, Valid}
 use Rattle.maps.specs.Mark.{isMark, between, beyond}
-use Rattle.maps.specs.Kernel.{Kernel}
+use Rattle.maps.specs.Kernel.{Kernel, WholeCells}
 use Rattle.maps.specs.Removal.{removal}
 use Rattle.maps.specs.Folded.{On, marks, level}
 use Rattle.maps.specs.Pyramid.{Pyramid}
@@ -17,7 +17,7 @@ use Rattle.facts.proofs.Namings.{passing-same, without-same}
 use Rattle.facts.proofs.Kernels.{removal-without, passing}
 use Rattle.facts.proofs.Levels.{level-valid}
 use Rattle.facts.proofs.Checks.{kernel-sound, sound-kernel}
-use Rattle.maps.specs.Join.{together, WholeCells}
+use Rattle.maps.specs.Split.{together}
 use Rattle.facts.proofs.Splits.{other-false, either, Left, keeps, both-passing}
 use Rattle.facts.proofs.Splits as general
 

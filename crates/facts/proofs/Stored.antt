@@ -12,12 +12,11 @@ use Rattle.maps.specs.Kernel.{Kernel}
 use Rattle.maps.specs.Removal.{removal}
 use Rattle.maps.specs.Table.{entry, absent, explicit}
 use Rattle.maps.specs.Check.{leaves, notFitting, at9, at10, check9, check10, checkKernel}
-use Rattle.maps.specs.CheckBase.{present}
+use Rattle.maps.specs.Explicit.{present, There, Sound}
 use Rattle.laws.proofs.Verdicts.{scan-same, and-both}
 use Rattle.laws.proofs.Tables.{entry-explicit, explicit-same}
 use Rattle.laws.proofs.Marks.{mark-rows, beyond-row}
 use Rattle.facts.proofs.Agreement.{removal-local, valid-same}
-use Rattle.maps.specs.Explicit.{There, Sound}
 
 -- a map a on the darts d < N with `on d`
 module _ (a : Involutions) (n N : ℕ) (on : ℕ → Bool) (few : N ≤ absent) (v : Valid a n (There N on)) where

@@ -12,11 +12,10 @@ use Rattle.maps.specs.Map.{Involutions, Valid}
 use Rattle.maps.specs.Mark.{isMark, stay, between}
 use Rattle.maps.specs.Removal.{marked, goOn, turnsFrom, removal}
 use Rattle.maps.specs.Table.{entry, each, absent}
-use Rattle.maps.specs.CheckBase.{present}
+use Rattle.maps.specs.Explicit.{present, There}
 use Rattle.laws.proofs.Verdicts.{and-both}
 use Rattle.laws.proofs.Marks.{mark-byte, mark-rows}
 use Rattle.laws.proofs.Tables.{explicit-of}
-use Rattle.maps.specs.Explicit.{There}
 use Rattle.facts.proofs.Kernels.{removal-valid}
 use Rattle.facts.proofs.Agreement.{goOn-local, turns-local}
 use Rattle.kernels.specs.Strings.{kernelRow, First, Along, Marks}

@@ -5,8 +5,7 @@ use Prim.Native.Nat.{ℕ}
 use Rattle.maps.specs.Verdict.{Verdict, accepted, _then_}
 use Rattle.maps.specs.Table.{entry}
 use Rattle.maps.specs.Check.{check9, check10, checkKernel}
-use Rattle.maps.specs.CheckBase.{present}
-use Rattle.maps.specs.Explicit.{There}
+use Rattle.maps.specs.Explicit.{present, There}
 use Rattle.facts.proofs.Checks.{kernel-sound}
 use Rattle.answers.specs.Numbers.{refusalOf}
 use Rattle.answers.specs.declared.Refusal.{Refusal}

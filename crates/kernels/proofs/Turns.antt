@@ -10,8 +10,7 @@ use Rattle.maps.specs.Count.{one, count, sum}
 use Rattle.maps.specs.Mark.{isMark, between}
 use Rattle.maps.specs.Removal.{goOn, turnsFrom}
 use Rattle.maps.specs.Table.{entry}
-use Rattle.maps.specs.CheckBase.{present}
-use Rattle.maps.specs.Explicit.{There}
+use Rattle.maps.specs.Explicit.{present, There}
 use Rattle.laws.proofs.Counting.{sum-count}
 use Rattle.laws.proofs.Verdicts.{and-both}
 use Rattle.facts.proofs.Turns.{Way, way-from, follow-bound}

@@ -14,8 +14,7 @@ use Rattle.maps.specs.Kernel.{Kernel}
 use Rattle.maps.specs.Removal.{goOn, turnsFrom, removal}
 use Rattle.maps.specs.Table.{entry, absent, explicit}
 use Rattle.maps.specs.Check.{checkKernel}
-use Rattle.maps.specs.CheckBase.{present}
-use Rattle.maps.specs.Explicit.{There, Sound}
+use Rattle.maps.specs.Explicit.{present, There, Sound}
 use Rattle.kernels.specs.declared.Kernel.{Kernel as Declared}
 use Rattle.kernels.specs.Strings.{kernelRow}
 

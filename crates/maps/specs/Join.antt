@@ -1,24 +1,13 @@
--- Two kernels taken as one, and kernels l and l+1 of a pyramid joined. Assumes nothing: these are definitions.
-use mathlib.Core.Path.{_≡_}
-use mathlib.Core.Bool.{true, cond}
+-- Kernels l and l+1 of a pyramid joined. Assumes nothing: these are definitions.
+use mathlib.Core.Bool.{cond}
 use mathlib.Core.List.{List}
-use Prim.Native.Nat.{ℕ, suc, _-_, _≤_}
+use Prim.Native.Nat.{ℕ, suc, _-_}
 use lib.Dec.{leb, ltb}
 use Rattle.maps.specs.Verdict.{Verdict, refused, when, ifAccepted, _then_}
-use Rattle.maps.specs.Map.{Involutions}
-use Rattle.maps.specs.Mark.{isMark, between}
 use Rattle.maps.specs.Table.{listed}
 use Rattle.maps.specs.Folded.{marks, level, Folded, base, lambdaOf, deltaOf}
 use Rattle.maps.specs.Check.{checkKernel}
 use Rattle.maps.specs.CheckPyramid.{leftBehind, checkLent, tableAt, checkLeaves}
-
--- Scope: 'Splitting a kernel'. The mark row of two kernels together: the first one's mark where it has one, else the second's.
-abbrev pub together : ℕ → (ℕ → ℕ) → (ℕ → ℕ) → ℕ → ℕ
-together n mark₁ mark₂ d = cond (isMark n (mark₁ d)) (mark₁ d) (mark₂ d)
-
--- Scope: 'Kernels'. Whole cells: every row but the dimension leads from a dart marked to one of the same mark. (What 9 tests, and the first field of a Kernel.)
-abbrev pub WholeCells : Involutions → ℕ → (ℕ → Type 0) → (ℕ → ℕ) → Type 0
-WholeCells a n present mark = (d j : ℕ) → present d → isMark n (mark d) ≡ true → j ≤ n → (j ≡ between (mark d) .0 → ⊥) → mark (a j d) ≡ mark d
 
 -- Scope: 'Join kernels'. Kernels l and l+1 joined: Λ above l falls by 1.
 abbrev pub joinΛ : ℕ → (ℕ → ℕ) → ℕ → ℕ

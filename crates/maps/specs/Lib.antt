@@ -36,6 +36,7 @@ pub mod Census
 pub mod Partner
 pub mod Regions
 pub mod Convert
+pub mod Split
 pub mod Join
 pub mod NewBase
 pub mod Rebase

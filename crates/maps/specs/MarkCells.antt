@@ -15,7 +15,7 @@ use Rattle.maps.specs.Kernel.{Removable}
 use Rattle.maps.specs.Parts.{Piece, TwoParts}
 use Rattle.maps.specs.Table.{entry, each}
 use Rattle.maps.specs.Check.{checkMap}
-use Rattle.maps.specs.CheckBase.{present}
+use Rattle.maps.specs.Explicit.{present}
 
 -- Scope: 'Mark cells'. Sizes and lengths, 13 where δ is n or more, then the explicit level.
 unfoldable pub markLent : ℕ → ℕ → List ℕ → ℕ → List ℕ → Verdict

@@ -11,8 +11,7 @@ use borrow.Author.Tests.{ltb-true, ltb-false}
 use Rattle.maps.specs.Map.{Valid}
 use Rattle.maps.specs.Orbit.{Orbit, here, further}
 use Rattle.maps.specs.Table.{entry}
-use Rattle.maps.specs.CheckBase.{present}
-use Rattle.maps.specs.Explicit.{There}
+use Rattle.maps.specs.Explicit.{present, There}
 use Rattle.facts.proofs.Checks.{map-sound}
 use Rattle.orbits.specs.Choices.{uses, chosen}
 use Rattle.orbits.specs.Search.{has, Room}

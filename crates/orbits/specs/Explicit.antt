@@ -7,7 +7,7 @@ use lib.Dec.{eqb}
 use Rattle.maps.specs.Verdict.{accepted}
 use Rattle.maps.specs.Table.{entry}
 use Rattle.maps.specs.Check.{checkMap}
-use Rattle.maps.specs.CheckBase.{present}
+use Rattle.maps.specs.Explicit.{present}
 use Rattle.answers.specs.Rows.{Rows}
 
 -- an explicit level that is accepted

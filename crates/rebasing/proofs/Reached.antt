@@ -6,9 +6,8 @@ use Rattle.maps.specs.Verdict.{accepted}
 use Rattle.maps.specs.Table.{entry, each}
 use Rattle.maps.specs.Folded.{Folded}
 use Rattle.maps.specs.Check.{checkKernel, kernelAt, checkKernels}
-use Rattle.maps.specs.CheckBase.{present}
+use Rattle.maps.specs.Explicit.{present, There}
 use Rattle.laws.proofs.Verdicts.{scan-accepted}
-use Rattle.maps.specs.Explicit.{There}
 use Rattle.facts.proofs.Checks.{kernel-sound}
 use Rattle.kernels.specs.Strings.{kernelRow}
 use Rattle.kernels.specs.Ready.{Ready, removedFrom}

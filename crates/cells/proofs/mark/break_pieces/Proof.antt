@@ -8,7 +8,7 @@ use native.Mathlib.Omega.{arith}
 use denote.Ref.{now}
 use borrow.Author.Needs.{needs}
 use borrow.Author.Tests.{not-false}
-use Rattle.maps.specs.CheckBase.{present}
+use Rattle.maps.specs.Explicit.{present}
 use Rattle.laws.proofs.Verdicts.{and-both, and-rest}
 use Rattle.answers.proofs.Rows.{rows-entry}
 use Rattle.orbits.specs.Search.{has, Room}

@@ -7,7 +7,7 @@ use lib.ListN.{length}
 use denote.Ref.{now}
 use borrow.Author.Tests.{not-true, not-false}
 use Rattle.maps.specs.Table.{entry}
-use Rattle.maps.specs.CheckBase.{present}
+use Rattle.maps.specs.Explicit.{present}
 use Rattle.answers.proofs.Rows.{rows-entry}
 use Rattle.orbits.proofs.Explicit.{level-valid}
 use borrow.Author.Needs.{needs}

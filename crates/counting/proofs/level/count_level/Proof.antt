@@ -6,7 +6,7 @@ use lib.ListN.{length, length-set, length-replicate, getD-replicate}
 use denote.Ref.{now}
 use borrow.Author.Needs.{needs}
 use Rattle.maps.specs.Table.{entry, each}
-use Rattle.maps.specs.CheckBase.{present}
+use Rattle.maps.specs.Explicit.{present}
 use Rattle.maps.specs.Census.{CellCount}
 use Rattle.counting.proofs.Counts.{row-more, row-rest}
 use Rattle.counting.proofs.level.count_level.Statement.{statement}
