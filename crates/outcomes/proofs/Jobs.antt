@@ -31,6 +31,7 @@ use Rattle.answers.proofs.marks_refusal.Reads as marks-refusal
 use Rattle.answers.proofs.numbers_of.Reads as numbers-of
 use Rattle.bases.proofs.check_base.Reads as check-base
 use Rattle.bases.proofs.check_explicit.Reads as check-explicit
+use Rattle.checking.proofs.early.Reads as early
 use Rattle.checking.proofs.check.Reads as check
 use Rattle.checking.proofs.add.Reads as add
 use Rattle.rows.proofs.marks_of.Reads as marks-of
@@ -67,6 +68,9 @@ check-base-one κs = one-outcome _ _ _ (λ a. verdictOf) checkFrom (λ a. check-
 
 pub check-explicit-one : (κs : Lfts 1) → OneOutcome (check-explicit.Learnt κs) (λ r. r) nothing
 check-explicit-one κs = one-outcome _ _ _ (λ a. verdictOf) checkFrom (λ a. check-told) _ _ (λ a r s c. (c, refl))
+
+pub early-one : (κs : Lfts 4) → OneOutcome (early.Learnt κs) (λ r. r) nothing
+early-one κs = one-outcome _ _ _ (λ a. verdictOf) checkFrom (λ a. check-told) _ _ (λ a r s c. (c, refl))
 
 -- the table
 pub check-one : (κs : Lfts 4) → OneOutcome (check.Learnt κs) (λ r. r) (λ s. now (s .1 .1 .1 .1 .0))
