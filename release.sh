@@ -104,6 +104,14 @@ copy() {
 copy include include/*.h
 copy lib "$libraries/libzompelgors.a" "$libraries/libzompelgors_regions.a"
 copy share/doc/zompelgors docs/SCOPE.md docs/INTEGRATING.md docs/BUDGETS.md docs/LANDINGS.md docs/OFFICE.md
+# What bounds the loops, with the addresses of these archives; docs/BUDGETS.md must be of the same.
+facts=(python3 -B bench/bound/bound.py --archives "$libraries/libzompelgors.a" "$libraries/libzompelgors_regions.a")
+if "${facts[@]}" check >"$made/bounds.txt" 2>&1; then
+    "${facts[@]}" facts >"$tree/share/doc/zompelgors/flow-facts.txt" || stop 1 "flow facts can't be written"
+else
+    [ -n "$trial" ] || stop 1 "docs/BUDGETS.md is of other machine code (bench/bound/bound.py check)"
+    echo "release.sh: the trial has no flow facts, since the libraries' code isn't that of bench/bound/loops.table" >&2
+fi
 copy share/zompelgors examples samples
 copy share/zompelgors/rust rust/Cargo.toml rust/build.rs rust/README.md rust/src rust/examples
 copy share/zompelgors/rust/cli rust/cli/Cargo.toml rust/cli/debian.toml rust/cli/src

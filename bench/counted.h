@@ -1,4 +1,5 @@
-/* Puts each call of the library between two marks of the plug-in insn.c; tests/call.c is compiled with it. */
+/* Puts each call of the library between two marks of the plug-in bound/edges.c; tests/call.c is compiled with it. What was
+ * counted comes back by a pipe. */
 #ifndef COUNTED_H
 #define COUNTED_H
 
@@ -7,11 +8,20 @@
 
 enum { COUNT_MARK = 0x7a67 }; /* no system call has this number */
 
+/* The two ends of the pipe: the plug-in writes to one, the program reads from the other. */
+#ifdef __cplusplus
+extern "C" {
+#endif
+extern int count_reading, count_writing;
+#ifdef __cplusplus
+}
+#endif
+
 /* Written out, so that the C library's errno and its like aren't counted. */
 static inline void count_mark(long begins)
 {
     long number = COUNT_MARK;
-    __asm__ volatile("syscall" : "+a"(number) : "D"(begins) : "rcx", "r11", "memory");
+    __asm__ volatile("syscall" : "+a"(number) : "D"(begins), "S"((long)count_writing) : "rcx", "r11", "memory");
 }
 
 #define COUNTED(call)                                                                                                  \

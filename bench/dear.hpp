@@ -209,9 +209,9 @@ inline Pyramid reversed(Pyramid p)
     return p;
 }
 
-// ---------------------------------------------------------------- pyramids that cost more than their formula
+// ---------------------------------------------------------------- pyramids that are dear for their size
 
-// The name is that of the group in the page's table.
+// The name is that of the group that the search tells.
 struct Witness {
     const char* name;
     Pyramid pyramid;
@@ -222,11 +222,14 @@ inline std::vector<Witness> witnesses()
     const Pyramid pair{2, 2, 1, {0, 1, 0, 1, 1, 0}, {0, 1}, {10, 2}, {}};
     const Pyramid late_pair{2, 2, 2, {0, 1, 0, 1, 1, 0}, {2, 0}, {2, 10}, {}};
     const Pyramid square{1, 4, 2, {3, 2, 1, 0, 0, 1, 3, 2}, {0, 0, 2, 1}, {0, 0, 1, 9}, {}};
-    std::vector<Witness> all = {
-        {"pairs", side_by_side(pair)}, {"late-pairs", side_by_side(late_pair)}, {"squares", side_by_side(square)}};
+    std::vector<Witness> all = {{"chain", chain(4, 32, 0, 2)},
+                                {"chain", chain(4, 32, 31, 2)},
+                                {"pairs", side_by_side(pair)},
+                                {"late-pairs", side_by_side(late_pair)},
+                                {"squares", side_by_side(square)}};
     for (unsigned n = 2; n <= 4; n++)
         for (unsigned i = 1; i < n; i++)
-            for (const unsigned h : {1u, 2u, 32u})
+            for (const unsigned h : {1u, 2u})
                 all.push_back({"chain", chain(n, h, 0, i)});
     return all;
 }

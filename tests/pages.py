@@ -1,7 +1,7 @@
 #!/usr/bin/env python3
 """Holds the pages of docs/ to the sources: public functions, theorems of one outcome, wrong programs, definitions and
 their lines, names and files of docs/DEMANDS.md, docs/CONTRACTS.md and docs/GLOSSARY.md, public laws that nothing cites, functions of the C interface in
-docs/JOBS.md and docs/BUDGETS.md, the formulas of bench/budget.py, headings that are cited, the pictures of docs/figures
+docs/JOBS.md and docs/BUDGETS.md, what bench/bound says is lent and read and its theorems, headings that are cited, the pictures of docs/figures
 to what draws them, the table of docs/CRATES.md to crates.txt; and the C header to the crates: names of refusals, version, width.
 
 tests/pages.py            says what differs, and fails if anything does
@@ -15,6 +15,7 @@ from pathlib import Path
 
 ROOT = Path(__file__).resolve().parent.parent
 CRATES = ROOT / "crates"
+BOUND = ROOT / "bench" / "bound"
 FIGURES = ROOT / "docs" / "figures"
 NAMED_PAGES = ["docs/DEMANDS.md", "docs/CONTRACTS.md", "docs/GLOSSARY.md"]
 TOLD_PAGES = ["README.md", "docs/TOUR.md", "docs/JOBS.md", "docs/CRATES.md", "docs/SCOPE.md", "docs/INTEGRATING.md", "docs/BUDGETS.md", "docs/DECISIONS.md", "docs/TRUST.md"]
@@ -396,21 +397,25 @@ def interface_differences():
     """Every function of the headers has its row in docs/JOBS.md and in the tables of docs/BUDGETS.md."""
     headers = "".join(path.read_text() for path in (ROOT / "include").glob("*.h"))
     due = set(re.findall(r"^\w+ (zg_\w+)\(", headers, re.M))
-    for page, column in (("docs/JOBS.md", "Crate"), ("docs/BUDGETS.md", "Bytes"), ("docs/BUDGETS.md", "others")):
+    for page, column in (("docs/JOBS.md", "Crate"), ("docs/BUDGETS.md", "Bytes"), ("docs/BUDGETS.md", "Any input")):
         told = {name for _, _, header, row in tables(page) if column in header for name in re.findall(r"zg_\w+", row[0])}
         for name in sorted(due ^ told):
             yield f"{page} and the headers differ in {name}, by the table with '{column}'"
 
 
 def budget_differences():
-    """docs/BUDGETS.md has what bench/budget.py says is lent and read, and its formulas."""
-    found = importlib.util.spec_from_file_location("budget", ROOT / "bench" / "budget.py")
-    budget = importlib.util.module_from_spec(found)
-    found.loader.exec_module(budget)
+    """docs/BUDGETS.md has what bench/bound/page.py says is lent and read, and a line for each line of the table that cites a
+    theorem or was seen in the code; theorems stand where lines say."""
+    if str(BOUND) not in sys.path:
+        sys.path.insert(0, str(BOUND))
+    page, table = importlib.import_module("page"), importlib.import_module("table")
     printed = (ROOT / "docs" / "BUDGETS.md").read_text().splitlines()
-    for row in [*budget.lent_rows(), *budget.read_rows(), *budget.formula_rows()]:
+    lines = table.Table(BOUND / "loops.table").lines
+    for row in [*page.lent_rows(), *page.read_rows(), *page.theorem_rows(lines), *page.seen_rows(lines)]:
         if row not in printed:
-            yield f"docs/BUDGETS.md hasn't the row that bench/budget.py prints: {row}"
+            yield f"docs/BUDGETS.md hasn't the row that bench/bound/page.py prints: {row}"
+    yield from page.lost_theorems(lines)
+    yield from page.lost_sources(lines)
 
 
 def quoted_differences():

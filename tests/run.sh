@@ -12,7 +12,8 @@
 #   COUNT     random cases, default 1,000,000; SEED the first seed, default 1. What follows is in proportion to COUNT
 #   CALLS     calls with mutated inputs, default COUNT / 5; tests/mutate.sh makes them for ten minutes
 #   PYRAMIDS  pyramids compared with CGAL, default COUNT / 200
-#   CASES     counted calls of each job, default COUNT / 2,000, and 20 at least; as many old records are converted
+#   CASES     random counted calls of each job, default COUNT / 2,000, and 20 at least; as many old records are converted
+#   TIME      seconds of processor time for the search for dear inputs, default COUNT / 3,000, and 20 at least
 #   BUILD     where the programs are built, default target/tests
 #   EMULATE   set on x86-64 to do as on other machines: cross compiler and emulator
 #
@@ -29,7 +30,7 @@ done
 source "$(dirname "${BASH_SOURCE[0]}")/tools.sh"
 COUNT=${COUNT:-1000000} SEED=${SEED:-1} BUILD=${BUILD:-target/tests}
 CALLS=${CALLS:-$((COUNT / 5))} PYRAMIDS=${PYRAMIDS:-$((COUNT / 200))}
-CASES=${CASES:-$((COUNT / 2000 > 20 ? COUNT / 2000 : 20))}
+CASES=${CASES:-$((COUNT / 2000 > 20 ? COUNT / 2000 : 20))} TIME=${TIME:-$((COUNT / 3000 > 20 ? COUNT / 3000 : 20))}
 TARGET=x86_64-unknown-linux-gnu
 
 need_compiler
@@ -398,16 +399,20 @@ part_rust() {
 
 # ---------------------------------------------------------------- budgets, the release, and the pages
 
-# counted: every call that bench/budget.sh counts, with fewer random ones, is within its formula, the witnesses apart.
-counted() {
-    LIB=$LIB REGIONS=$REGIONS BUILD=$BUILD/budget SEED=$SEED CASES=$CASES bench/budget.sh >"$BUILD/budgets.md" || return 1
-    echo "$(wc -l <"$BUILD/budget/facts") calls counted, each within its formula but for the witnesses"
+# bounded: the archives' code is that of the table, the page has their bounds, and a search for dear inputs finds no call over
+# its bound and none that breaks a line. The nearest of each function is in BUILD/bound/found.
+bounded() {
+    local found=$BUILD/bound/found
+    LIB=$LIB REGIONS=$REGIONS BUILD=$BUILD/bound SEED=$SEED CASES=$CASES TIME=$TIME bench/bound.sh >"$BUILD/budgets.md" || return 1
+    python3 -B bench/bound/bound.py --archives "$LIB" "$REGIONS" agrees docs/BUDGETS.md "$found" || return 1
+    grep '^nearest' "$found"
+    echo "$(awk '/^calls/ { sub("calls=", "", $3); all += $3 } END { print all }' "$found") calls, none over its bound, no line broken"
 }
 part_budgets() {
     if [ -n "$standin" ]; then
         leave "budgets" "they are of the library itself"
     elif can "budgets" python3 qemu-user gcc "${for_cxx[@]}"; then
-        report "budgets" "$BUILD/budgets.txt" counted
+        report "budgets" "$BUILD/budgets.txt" bounded
     fi
 }
 # released: a trial, made twice, with a gate's log that names the commit and with one that doesn't.

@@ -1,11 +1,22 @@
-// Calls every job of the C interface on dear and on random inputs. tests/call.c is compiled with counted.h, so the
-// plug-in prints the instructions of each call; this program prints, a line for each, what the formulas are of.
-#include "dear.hpp"
-#include "counted.h"
+// Looks for dear inputs of every job, and holds each call to its bound and to the lines of the table: known inputs, random
+// ones, then a climb from the dearest by small changes, for a given time. tests/call.c is compiled with counted.h, so that
+// the plug-in edges.c counts each call.
+#include "judge.hpp"
+#include "grown.hpp"
+
+#include <ctime>
+
+int count_reading, count_writing;
 
 namespace {
 
-// ---------------------------------------------------------------- one call, and what its formula is of
+judge::Plan plan;
+
+// Seconds of processor time of this program so far, and when what is run now has had its share.
+double spent() { return double(std::clock()) / CLOCKS_PER_SEC; }
+double share_ends = 0;
+
+// ---------------------------------------------------------------- one call, and the facts that its bound is of
 
 // Darts with Lambda below a level, 0 where Lambda hasn't its length.
 unsigned gone(const Case& c, unsigned level)
@@ -15,10 +26,12 @@ unsigned gone(const Case& c, unsigned level)
     return unsigned(std::count_if(c.lambda.begin(), c.lambda.end(), [&](unsigned l) { return l < level; }));
 }
 
-// Darts that are gone above the last kernel, that of a mark row too.
+// Darts that are gone above the last kernel, that of a mark row too; of a reading or unfolding those gone from its level.
 std::size_t gone_at_last(const Case& c)
 {
     const auto marked = [&](unsigned mark) { return mark != ZG_STAY; };
+    if (c.what == READ || c.what == BY_LEVELS || c.what == UNFOLD)
+        return gone(c, c.level);
     return gone(c, c.h) + (c.what == ADD ? std::count_if(c.marks.begin(), c.marks.end(), marked) : 0);
 }
 
@@ -57,25 +70,42 @@ void read_record(Case& c)
         c.lambda.assign(c.bytes.begin() + long(at), c.bytes.begin() + long(at + c.darts));
 }
 
-void print_line(const char* name, const char* group, const Case& c, const Answer& a)
+// Is it a call of an accepted pyramid that answers 0? An unfolding may answer 0 on tables that no check accepts.
+bool accepted(const Case& c, const Answer& a)
 {
-    std::printf("%s %s %u %u %u %u %u %zu %.0f %zu %lu\n", name, group, a.refusal.number, c.n, c.darts, c.h, c.level,
-                gone_at_last(c), reads(c, a), c.bytes.size(), all_survivors(c));
+    if (a.refusal.number || c.what != UNFOLD)
+        return !a.refusal.number;
+    Entries table(c.rows.size());
+    return !plain_check(std::uint8_t(c.n), std::uint16_t(c.darts), std::uint8_t(c.h), c.rows.data(), c.rows.size(),
+                        c.lambda.data(), c.lambda.size(), c.delta.data(), c.delta.size(), table.data(), table.size())
+                .number;
 }
 
-void run(const char* group, Case c)
+// A call, held to its bound and to the lines; none any more where the share of time is used up.
+judge::Kept run(const char* group, const Case& c)
 {
-    Case asked = c;
+    if (spent() > share_ends)
+        return {};
+    Case asked = c, lent = c;
     if (c.what == TAKE)
         read_record(asked);
-    const Answer a = answer_by_library(c);
-    print_line(job_names[c.what], group, asked, a);
+    const Answer a = answer_by_library(lent);
+    const judge::Facts f{double(asked.n),     double(asked.darts), double(asked.h),          double(asked.level),
+                         double(gone_at_last(asked)), reads(asked, a),     double(all_survivors(asked))};
+    return judge::hold(plan, job_names[c.what], group, f, accepted(c, a) ? 0 : std::max(a.refusal.number, 1u));
+}
+
+// What begins now, and the processor time that it may take.
+void begin(const char* what, double seconds)
+{
+    share_ends = spent() + seconds;
+    std::fprintf(stderr, "search: %s, after %.0f s, for %.0f s at most\n", what, spent(), seconds);
 }
 
 void run_version()
 {
     if (zg_version() == ZG_VERSION)
-        print_line("version", "bench", Case(), Answer());
+        judge::hold(plan, "version", "bench", {}, 0);
 }
 
 // ---------------------------------------------------------------- every job on one pyramid
@@ -90,14 +120,14 @@ bool passes(const Pyramid& p, const Case& asked)
     return p.lambda[asked.dart] >= asked.level && p.lambda[met] < asked.level;
 }
 
-// At most two dozen readings by each involution: of darts whose walk passes a dart, and of some others.
+// At most six readings by each involution: of darts whose walk passes a dart, and of some others.
 void ask_readings(const char* group, job what, const Pyramid& p, unsigned level)
 {
     Case c = dear::lend(what, p, level);
     for (c.involution = 0; c.involution <= p.n; c.involution++) {
         unsigned asked = 0;
-        for (c.dart = 0; c.dart < p.darts && asked < 24; c.dart++)
-            if (passes(p, c) || c.dart % (p.darts / 5 + 1) == 0) {
+        for (c.dart = 0; c.dart < p.darts && asked < 6; c.dart++)
+            if (passes(p, c) || c.dart % (p.darts / 2 + 1) == 0) {
                 run(group, c);
                 asked++;
             }
@@ -114,10 +144,14 @@ void run_levels(const char* group, job what, const Pyramid& p)
     }
 }
 
+// A census of many levels is some fifty times as dear as a check: of large pyramids only some are asked for one.
+bool short_census(const Pyramid& p) { return (p.h + 1) * p.darts < 20000 || (p.n == 4 && p.lambda[0] == p.h); }
+
 void run_all(const char* group, const Pyramid& p)
 {
     for (const job what : whole_pyramid)
-        run_levels(group, what, p);
+        if (what != CENSUS || short_census(p))
+            run_levels(group, what, p);
     run(group, dear::lend_add(p));
     for (const unsigned level : {(p.h + 1) / 2, p.h}) {
         ask_readings(group, READ, p, level);
@@ -180,14 +214,13 @@ void spoil_partner(unsigned m)
     run("last", c);
 }
 
-// ---------------------------------------------------------------- groups of inputs
+// ---------------------------------------------------------------- known inputs, and random ones
 
 void run_bench(const char* group, std::initializer_list<const char*> names)
 {
     for (const char* name : names) {
         const Pyramid p = dear::of_bench(name);
         run_all(group, p);
-        run_all("adversarial", dear::reversed(p));
         spoil_all(p);
     }
 }
@@ -195,7 +228,8 @@ void run_bench(const char* group, std::initializer_list<const char*> names)
 void run_adversarial(const Pyramid& p)
 {
     run_all("adversarial", p);
-    spoil_all(p);
+    if (p.darts < dear::most_darts)
+        spoil_all(p);
 }
 
 void run_rings(unsigned n, unsigned darts)
@@ -206,7 +240,8 @@ void run_rings(unsigned n, unsigned darts)
         run_adversarial(dear::empty_kernels(p));
         for (const unsigned mark : marks)
             for (const auto which : {dear::ALL, dear::ALL_BUT_ONE, dear::EVERY_OTHER})
-                run_adversarial(dear::taken_out(p, mark, which));
+                if (darts < dear::most_darts || which == dear::ALL_BUT_ONE)
+                    run_adversarial(dear::taken_out(p, mark, which));
     }
 }
 
@@ -238,12 +273,11 @@ void run_witnesses()
 }
 
 // Jobs are drawn alike. The programs among them are left out: what they do is in the jobs that they call.
-void run_random(std::uint64_t seed, unsigned long cases_a_job)
+void run_random(Random& r, unsigned long cases_a_job)
 {
     constexpr unsigned cases_a_source = 24;
-    Random r(seed);
     Pyramid source;
-    for (unsigned long done = 0; done < cases_a_job * JOBS; done++) {
+    for (unsigned long done = 0; done < cases_a_job * JOBS && spent() < share_ends; done++) {
         if (done % cases_a_source == 0)
             source = random_source(r);
         const Case c = random_case(r, source);
@@ -252,23 +286,129 @@ void run_random(std::uint64_t seed, unsigned long cases_a_job)
     }
 }
 
+void run_known()
+{
+    run_version();
+    for (const unsigned m : {1u, 2u, 31u, 61u, 256u, dear::most_darts / 2})
+        run_partner(m);
+    run_witnesses();
+    run_bench("bench", {"grid2", "grid3", "path32", "grid4", "strip", "voxels", "cycle", "vertex"});
+    run_bench("contraction", {"both1", "both2", "both3", "both4"});
+    for (const unsigned darts : {2u, 64u, dear::most_darts}) {
+        for (unsigned n = darts < dear::most_darts ? 1 : 4; n <= 4; n++)
+            run_rings(n, darts);
+        run_paths(darts);
+    }
+}
+
+// ---------------------------------------------------------------- the climb
+
+// An input that a job was asked, and how dear it was.
+struct Tried {
+    double worth = 0;
+    grown::Input input;
+};
+
+// What is sought: calls near their bound, and calls that take most.
+enum Aim { NEAR, MUCH, AIMS };
+
+// The best inputs of a job by each aim, and the time that was spent on it.
+struct Climb {
+    job what;
+    std::vector<Tried> best[AIMS];
+    double seconds = 0;
+};
+
+constexpr std::size_t kept_inputs = 8;
+
+Case case_of(job what, const grown::Input& in)
+{
+    const Pyramid p = grown::assembled(in);
+    const unsigned level = p.h - std::min(p.h, in.level);
+    if (what == ADD)
+        return dear::lend_add(p);
+    if (what == MARK)
+        return dear::lend_level(p, level, in.involution % p.n);
+    Case c = dear::lend(what, p, level);
+    c.involution = in.involution % (p.n + 1);
+    c.dart = in.dart % p.darts;
+    return c;
+}
+
+void keep_best(std::vector<Tried>& best, double worth, const grown::Input& in)
+{
+    if (best.size() == kept_inputs && best.back().worth >= worth)
+        return;
+    if (best.size() == kept_inputs)
+        best.pop_back();
+    const auto at = std::find_if(best.begin(), best.end(), [&](const Tried& t) { return t.worth < worth; });
+    best.insert(at, Tried{worth, in});
+}
+
+// One input of a job. A level can be marked only where a pyramid is good.
+void try_input(Climb& climb, const grown::Input& in)
+{
+    const double start = spent();
+    try {
+        const judge::Kept found = run("climb", case_of(climb.what, in));
+        keep_best(climb.best[NEAR], found.part(), in);
+        keep_best(climb.best[MUCH], found.count, in);
+    } catch (const std::logic_error&) {
+    }
+    climb.seconds += spent() - start;
+}
+
+void take_step(Random& r, Climb& climb)
+{
+    const auto& best = climb.best[r.below(AIMS)];
+    if (best.empty() || r.chance(15)) {
+        try_input(climb, grown::drawn(r));
+        return;
+    }
+    grown::Input in = best[r.below(best.size())].input;
+    for (unsigned times = r.between(1, 3); times; times--)
+        grown::change(r, in);
+    if (grown::darts_of(in) <= dear::most_darts)
+        try_input(climb, in);
+}
+
+// Until the share of time is used up; always a step of the job that had the least of it.
+void run_climbs(Random& r)
+{
+    std::vector<Climb> climbs;
+    for (const job what : whole_pyramid)
+        climbs.push_back({what, {}, 0});
+    for (const job what : {ADD, READ, BY_LEVELS, MARK})
+        climbs.push_back({what, {}, 0});
+    const auto known = dear::witnesses();
+    for (std::size_t k = 0; k < 5; k++)
+        for (Climb& climb : climbs)
+            if (climb.what != CENSUS)
+                try_input(climb, {{{known[k].pyramid, 1}}, false, 0, 0, 0, 0});
+    while (spent() < share_ends) {
+        const auto least = [](const Climb& x, const Climb& y) { return x.seconds < y.seconds; };
+        take_step(r, *std::min_element(climbs.begin(), climbs.end(), least));
+    }
+}
+
 } // namespace
 
 int main(int argc, char** argv)
 {
-    if (argc != 3) {
-        std::fprintf(stderr, "budget SEED CASES\n");
+    int ends[2];
+    if (argc != 5 || pipe(ends)) {
+        std::fprintf(stderr, "search PLAN SEED CASES SECONDS\n");
         return 2;
     }
-    run_version();
-    run_bench("bench", {"grid2", "grid3", "path32", "grid4", "strip", "voxels", "cycle", "vertex"});
-    run_bench("contraction", {"both1", "both2", "both3", "both4"});
-    for (const unsigned darts : {2u, 64u, dear::most_darts}) {
-        for (unsigned n = 1; n <= 4; n++)
-            run_rings(n, darts);
-        run_paths(darts);
-        run_partner(darts / 2);
-    }
-    run_witnesses();
-    run_random(std::strtoull(argv[1], nullptr, 10), std::strtoul(argv[2], nullptr, 10));
+    count_reading = ends[0], count_writing = ends[1];
+    plan = judge::read_plan(argv[1]);
+    Random r(std::strtoull(argv[2], nullptr, 10));
+    const double seconds = std::strtod(argv[4], nullptr);
+    begin("known inputs", 0.5 * seconds);
+    run_known();
+    begin("random inputs", 0.2 * seconds);
+    run_random(r, std::strtoul(argv[3], nullptr, 10));
+    begin("climb", seconds - spent());
+    run_climbs(r);
+    return judge::print_found(plan) ? 0 : 1;
 }
