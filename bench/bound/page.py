@@ -86,6 +86,7 @@ So check once what comes from outside, and budget by the first two lines.
 """
 
 READS_BEHIND = """
+docs/figures/plot-reads.svg draws what unfolding each level reads under the bound of accepted pyramids, docs/figures/plot-memory.svg the bytes of a folded pyramid beside those of all its levels.
 Counts in a refusal are 0, though entries were read.
 The other jobs return no count of reads; what they read is in their bound below, by instructions.
 """
