@@ -82,6 +82,16 @@ module _ (f : Folded) where
     pub way : OnWay l from at
     pub read : Reads f (l - 1) at end
 
+  -- the walk to level l from a place is under way: from some place that it has come to, a reading has ended so
+  pub record Underway (l : ℕ) (from : Place) (end : End) : Type 0 where
+    pub at : Place
+    pub stepped : Stepped l from at end
+
+  -- the entries that it has read, and one more than it may where it has stopped
+  abbrev pub readBy : End → ℕ
+  readBy (At p) = p .count
+  readBy (Stopped y p) = 2 + 2 * f .N
+
   -- at a dart that is not on level l, which was passed or not
   pub record Turned (l : ℕ) (from at : Place) (end : End) : Type 0 where
     pub met : Place
@@ -141,9 +151,6 @@ module _ {f : Folded} {l : ℕ} where
       pub pass-comes : OnWay f l from (record { row = from .row; dart = p .dart; count = p .count })
       pass-comes = record { row = refl; dart = behind .dart; same = λ i b. turned x i b ∙ rw (x .step .way .row) }
 
-      pub pass-reads : (at .count < p .count) × (p .count ≤ 1 + 2 * f .N)
-      pass-reads = (omega (arith, step-lands (x .step) .more, behind .more), behind .most)
-
   -- past a place that was met on level l
   module _ {p : Place} where
     -- a dart of a kernel has a mark
@@ -169,6 +176,11 @@ module _ {f : Folded} {l : ℕ} where
 
         pub across-no-pass : same ≡ false → Passes f l p (Stopped NoPass q)
         across-no-pass f i b = sym (crossed x i b ∙ rw (← is, f))
+
+-- a reading behind a pass leaves fewer entries to read
+pub nearer : (f : Folded) (l : ℕ) (at : Place) {met : Place} {t u e : ℕ} {old : End} → old ≡ At met → Landed (f .n) (f .N) (f .h) (lambdaOf f) (deltaOf f) t (met .count) u e (at .count) → (r : End) → Reads f l at r → 2 + 2 * f .N - readBy f r < 2 + 2 * f .N - readBy f old
+nearer f l at e x (At q) read = let y = landed f l at q read in rw e (omega (arith, x .more, y .more, y .most))
+nearer f l at e x (Stopped y q) read = rw e (omega (arith, x .more, x .most))
 
 -- a walk that is stopped in the second step of a pass
 pub crossing-stops : {f : Folded} {l : ℕ} {from at met : Place} {y : Stop} {q : Place} → Stepped f l from at (At met) → each (f .lambda) (met .dart) < l → Crossed f (l - 1) met (Stopped y q) → Reads f l from (Stopped y q)

@@ -111,10 +111,8 @@ fn walk(sizes: Sizes, rows: &[u16], lambda: &[u8], delta: &[u8], l: Level, from:
     ensures { λ r. ⌜ Reads (lent sizes (rows .entry) (lambda .entry) (delta .entry)) (l .0) from r ⌝ }
 {
     let below = Level(l.0 - 1);
-    let row = from.row;
-    let mut at = from;
+    let mut step = reading(sizes, rows, lambda, delta, below, from);
     loop {
-        let step = reading(sizes, rows, lambda, delta, below, at);
         match step {
             End::Stopped(stop, place) => return End::Stopped(stop, place),
             End::At(met) => {
@@ -136,11 +134,13 @@ fn walk(sizes: Sizes, rows: &[u16], lambda: &[u8], delta: &[u8], l: Level, from:
                         if !same_kernel(lambda, delta, below, met.dart, next.dart) {
                             return End::Stopped(Stop::NoPass, next);
                         }
-                        at = Place {
+                        let row = from.row;
+                        let at = Place {
                             row,
                             dart: next.dart,
                             count: next.count,
                         };
+                        step = reading(sizes, rows, lambda, delta, below, at);
                     }
                 }
             }

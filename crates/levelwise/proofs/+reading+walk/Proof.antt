@@ -1,5 +1,5 @@
 -- The proof of the cycle of calls {reading, walk}. Twice the level falls, with one more for `reading`.
--- The invariant: the walk from the start is the walk from the place that it has come to. The loop's measure is the entries left to read.
+-- The invariant: the walk from the start is the walk from a place that it has come to, whose reading has ended so. The loop's measure is the entries left to read.
 -- Assumes nothing.
 use mathlib.Core.Path.{_≡_, refl, sym, _∙_}
 use mathlib.Core.Bool.{true}
@@ -12,13 +12,14 @@ use Rattle.maps.specs.Table.{each}
 use Rattle.maps.specs.Folded.{gone}
 use Rattle.laws.proofs.Marks.{mark-byte, mark-rows}
 use Rattle.laws.proofs.Verdicts.{and-both}
+use Rattle.levelwise.specs.declared.Place.{Place}
 use Rattle.levelwise.specs.declared.End.{End}
 use Rattle.levelwise.specs.declared.End.the-variants.{At, Stopped}
 use Rattle.levelwise.specs.declared.Stop.the-variants.{NoPass}
 use Rattle.answers.specs.declared.Onward.{Onward}
 use Rattle.answers.specs.declared.Onward.the-variants.{By, Nowhere}
 use Rattle.levelwise.specs.Ends.{Second}
-use Rattle.levelwise.proofs.Readings.{OnWay, Stepped, Meets, Passes, Turned, Crossed, step-told, pass-told, step-stops, step-ends, step-lands, pass-stops, pass-comes, pass-reads, no-second, kernel-mark, across-told, crossing-stops, across-lands, across-ends, across-no-pass}
+use Rattle.levelwise.proofs.Readings.{Stepped, Meets, Passes, Turned, Crossed, Underway, readBy, nearer, step-told, pass-told, step-stops, step-ends, step-lands, pass-stops, pass-comes, no-second, kernel-mark, across-told, crossing-stops, across-lands, across-ends, across-no-pass}
 use borrow.Author.Needs.{needs}
 use borrow.Author.Tests.{eqb-true, ltb-true, ltb-false, not-true, not-false}
 use borrow.Fn.Kinds.{In}
@@ -74,81 +75,81 @@ reading-returns-2 : (t : ℕ) → reading-lts.Need-returns-2 (reading-claims t) 
 reading-returns-2 t c = c .walk .ensures
 
 abbrev walk-Inv-loop : walk-lts.InvT-loop
-walk-Inv-loop sizes rows lambda delta l below row at₀ at = OnWay (pyramid sizes rows lambda delta) (l .0) at₀ at
+walk-Inv-loop sizes rows lambda delta l from below step₀ step = Underway (pyramid sizes rows lambda delta) (l .0) from step
 
 abbrev walk-μ-loop : walk-lts.MeasureT-loop
-walk-μ-loop sizes rows lambda delta l below row at₀ at = 1 + 2 * sizes .darts - at .count
+walk-μ-loop sizes rows lambda delta l from below step₀ step = 2 + 2 * sizes .darts - readBy (pyramid sizes rows lambda delta) step
 
--- a step has ended
 abbrev walk-start : (t : ℕ) → walk-lts.At-loop (walk-claims t) (walk-at t) walk.Post walk-Inv-loop walk-μ-loop → walk-lts.Start (walk-claims t) (walk-at t) walk.Post walk-Inv-loop walk-μ-loop
 walk-start t c = c .before .before .before .before .before .before
 
-walk-stepped : (t : ℕ) (c : walk-lts.After-reading (walk-claims t) (walk-at t) walk.Post walk-Inv-loop walk-μ-loop) → let a = walk-start t (c .before) .args in Stepped (lent (a .sizes) (a .rows) (a .lambda) (a .delta)) (a .l .0) (a .from) (c .before .loop .at) (c .reading .result)
-walk-stepped t c =
-    let head = c .before in
-    record { above = walk-start t head .pre .1 .1; way = head .loop .inv; read = c .reading .ensures }
-
 -- it has met a dart
-walk-met : (t : ℕ) (c : walk-lts.After-step2 (walk-claims t) (walk-at t) walk.Post walk-Inv-loop walk-μ-loop) → let a = walk-start t (c .before .before .before) .args in Stepped (lent (a .sizes) (a .rows) (a .lambda) (a .delta)) (a .l .0) (a .from) (c .before .before .before .loop .at) (At (c .step2 .given .0 .0))
-walk-met t c = step-told (walk-stepped t (c .before .before)) (c .step2 .given .1)
+walk-met : (t : ℕ) (c : walk-lts.After-step2 (walk-claims t) (walk-at t) walk.Post walk-Inv-loop walk-μ-loop) → let head = c .before .before in let a = walk-start t head .args in Stepped (lent (a .sizes) (a .rows) (a .lambda) (a .delta)) (a .l .0) (a .from) (head .loop .inv .at) (At (c .step2 .given .0 .0))
+walk-met t c = step-told (c .before .before .loop .inv .stepped) (c .step2 .given .1)
 
 -- the place that was met, by the test of its level, and what it is met as
 abbrev walk-step : (t : ℕ) → walk-lts.After-is-gone (walk-claims t) (walk-at t) walk.Post walk-Inv-loop walk-μ-loop → walk-lts.After-step2 (walk-claims t) (walk-at t) walk.Post walk-Inv-loop walk-μ-loop
 walk-step t c = c .before .before .before .before
 
-walk-gone : (t : ℕ) (c : walk-lts.After-is-gone (walk-claims t) (walk-at t) walk.Post walk-Inv-loop walk-μ-loop) → let met = walk-step t c in let a = walk-start t (met .before .before .before) .args in gone (each (now (a .lambda))) (a .l .0) (met .step2 .given .0 .0 .dart) ≡ c .is-gone .result
+walk-gone : (t : ℕ) (c : walk-lts.After-is-gone (walk-claims t) (walk-at t) walk.Post walk-Inv-loop walk-μ-loop) → let met = walk-step t c in let a = walk-start t (met .before .before) .args in gone (each (now (a .lambda))) (a .l .0) (met .step2 .given .0 .0 .dart) ≡ c .is-gone .result
 walk-gone t c = rw (c .before .lambda-at .ensures) at (sym (c .is-gone .ensures))
 
-walk-meets : (t : ℕ) (c : walk-lts.After-is-gone (walk-claims t) (walk-at t) walk.Post walk-Inv-loop walk-μ-loop) → let met = walk-step t c in let a = walk-start t (met .before .before .before) .args in Meets (lent (a .sizes) (a .rows) (a .lambda) (a .delta)) (a .l .0 - 1) (met .step2 .given .0 .0)
+walk-meets : (t : ℕ) (c : walk-lts.After-is-gone (walk-claims t) (walk-at t) walk.Post walk-Inv-loop walk-μ-loop) → let met = walk-step t c in let a = walk-start t (met .before .before) .args in Meets (lent (a .sizes) (a .rows) (a .lambda) (a .delta)) (a .l .0 - 1) (met .step2 .given .0 .0)
 walk-meets t c =
     let met = walk-step t c in
-    let head = met .before .before .before in
+    let head = met .before .before in
     let start = walk-start t head in
     let p = start .pre .1 .0 in
     let x = step-lands (walk-met t met) in
     record {
-      asked = record { top = p .top; lent = p .lent; under = omega (arith, p .under, start .pre .1 .1); row = omega (arith, p .row, x .row, head .loop .inv .row); dart = x .dart };
+      asked = record { top = p .top; lent = p .lent; under = omega (arith, p .under, start .pre .1 .1); row = omega (arith, p .row, x .row, head .loop .inv .stepped .way .row); dart = x .dart };
       marks = x .marks;
     }
 
 -- it is not on the level above
-walk-left : (t : ℕ) (c : walk-lts.Else1 (walk-claims t) (walk-at t) walk.Post walk-Inv-loop walk-μ-loop) → let met = walk-step t (c .before) in let a = walk-start t (met .before .before .before) .args in each (now (a .lambda)) (met .step2 .given .0 .0 .dart) < a .l .0
+walk-left : (t : ℕ) (c : walk-lts.Else1 (walk-claims t) (walk-at t) walk.Post walk-Inv-loop walk-μ-loop) → let met = walk-step t (c .before) in let a = walk-start t (met .before .before) .args in each (now (a .lambda)) (met .step2 .given .0 .0 .dart) < a .l .0
 walk-left t c = ltb-true _ _ (walk-gone t (c .before) ∙ not-false (c .before .is-gone .result) (c .if1 .left))
 
 -- how it is passed
-walk-turned : (t : ℕ) (c : walk-lts.Else1 (walk-claims t) (walk-at t) walk.Post walk-Inv-loop walk-μ-loop) {end : End} → let met = walk-step t (c .before) in let head = met .before .before .before in let a = walk-start t head .args in Passes (lent (a .sizes) (a .rows) (a .lambda) (a .delta)) (a .l .0 - 1) (met .step2 .given .0 .0) end → Turned (lent (a .sizes) (a .rows) (a .lambda) (a .delta)) (a .l .0) (a .from) (head .loop .at) end
+walk-turned : (t : ℕ) (c : walk-lts.Else1 (walk-claims t) (walk-at t) walk.Post walk-Inv-loop walk-μ-loop) {end : End} → let met = walk-step t (c .before) in let head = met .before .before in let a = walk-start t head .args in Passes (lent (a .sizes) (a .rows) (a .lambda) (a .delta)) (a .l .0 - 1) (met .step2 .given .0 .0) end → Turned (lent (a .sizes) (a .rows) (a .lambda) (a .delta)) (a .l .0) (a .from) (head .loop .inv .at) end
 walk-turned t c pass = let met = walk-step t (c .before) in record { met = met .step2 .given .0 .0; step = walk-met t met; left = walk-left t c; pass = pass }
 
 -- what the test of its mark told
-walk-second : (t : ℕ) (c : walk-lts.After-second-row (walk-claims t) (walk-at t) walk.Post walk-Inv-loop walk-μ-loop) (is : Onward) → c .second-row .result ≡ is → let met = walk-step t (c .before .before) in let a = walk-start t (met .before .before .before) .args in Second (each (now (a .lambda))) (each (now (a .delta))) (a .l .0 - 1) (met .step2 .given .0 .0 .row .0) (met .step2 .given .0 .0 .dart) is
+walk-second : (t : ℕ) (c : walk-lts.After-second-row (walk-claims t) (walk-at t) walk.Post walk-Inv-loop walk-μ-loop) (is : Onward) → c .second-row .result ≡ is → let met = walk-step t (c .before .before) in let a = walk-start t (met .before .before) .args in Second (each (now (a .lambda))) (each (now (a .delta))) (a .l .0 - 1) (met .step2 .given .0 .0 .row .0) (met .step2 .given .0 .0 .dart) is
 walk-second t c is e = rw e at (c .second-row .ensures)
 
 -- the second step of a pass has ended
-walk-crossed : (t : ℕ) (c : walk-lts.After-reading2 (walk-claims t) (walk-at t) walk.Post walk-Inv-loop walk-μ-loop) → let met = walk-step t (c .before .before .before .before .before .before) in let a = walk-start t (met .before .before .before) .args in Crossed (lent (a .sizes) (a .rows) (a .lambda) (a .delta)) (a .l .0 - 1) (met .step2 .given .0 .0) (c .reading2 .result)
+walk-crossed : (t : ℕ) (c : walk-lts.After-reading2 (walk-claims t) (walk-at t) walk.Post walk-Inv-loop walk-μ-loop) → let met = walk-step t (c .before .before .before .before .before .before) in let a = walk-start t (met .before .before) .args in Crossed (lent (a .sizes) (a .rows) (a .lambda) (a .delta)) (a .l .0 - 1) (met .step2 .given .0 .0) (c .reading2 .result)
 walk-crossed t c =
     let across = c .before .before in
     record { second = across .across .given .0 .0; second-row = walk-second t (across .before .before) _ (across .across .given .1); read = c .reading2 .ensures }
 
-walk-reached : (t : ℕ) (c : walk-lts.After-next (walk-claims t) (walk-at t) walk.Post walk-Inv-loop walk-μ-loop) → let met = walk-step t (c .before .before .before .before .before .before .before .before) in let a = walk-start t (met .before .before .before) .args in Crossed (lent (a .sizes) (a .rows) (a .lambda) (a .delta)) (a .l .0 - 1) (met .step2 .given .0 .0) (At (c .next .given .0 .0))
+walk-reached : (t : ℕ) (c : walk-lts.After-next (walk-claims t) (walk-at t) walk.Post walk-Inv-loop walk-μ-loop) → let met = walk-step t (c .before .before .before .before .before .before .before .before) in let a = walk-start t (met .before .before) .args in Crossed (lent (a .sizes) (a .rows) (a .lambda) (a .delta)) (a .l .0 - 1) (met .step2 .given .0 .0) (At (c .next .given .0 .0))
 walk-reached t c = across-told (walk-crossed t (c .before .before)) (c .next .given .1)
 
 walk-sub-t20 : (t : ℕ) → walk-lts.Need-sub-t20 (walk-claims t) (walk-at t) walk.Post walk-Inv-loop walk-μ-loop
 walk-sub-t20 t c = search needs
 
 walk-loop-holds : (t : ℕ) → walk-lts.Need-loop-holds (walk-claims t) (walk-at t) walk.Post walk-Inv-loop walk-μ-loop
-walk-loop-holds t c = let p = c .before .before .before .before .before .pre .1 .0 in record { row = refl; dart = p .dart; same = λ i b. refl }
+walk-loop-holds t c =
+    let start = c .before .before .before .before .before in
+    let p = start .pre .1 .0 in
+    record {
+      at = start .args .from;
+      stepped = record { above = start .pre .1 .1; way = record { row = refl; dart = p .dart; same = λ i b. refl }; read = c .reading .ensures };
+    }
 
 walk-reading-requires : (t : ℕ) → walk-lts.Need-reading-requires (walk-claims t) (walk-at t) walk.Post walk-Inv-loop walk-μ-loop
 walk-reading-requires t c κs =
-    let start = walk-start t c in
+    let start = c .before .before .before .before in
     let p = start .pre .1 .0 in
-    (omega (arith, start .pre), record { top = p .top; lent = p .lent; under = omega (arith, p .under); row = omega (arith, p .row, c .loop .inv .row); dart = c .loop .inv .dart })
+    (omega (arith, start .pre), record { top = p .top; lent = p .lent; under = omega (arith, p .under); row = p .row; dart = p .dart })
 
 walk-enum-known-step : (t : ℕ) → walk-lts.Need-enum-known-step (walk-claims t) (walk-at t) walk.Post walk-Inv-loop walk-μ-loop
 walk-enum-known-step t c = search needs
 
 walk-returns : (t : ℕ) → walk-lts.Need-returns (walk-claims t) (walk-at t) walk.Post walk-Inv-loop walk-μ-loop
-walk-returns t c = step-stops (step-told (walk-stepped t (c .before .before .before)) (c .before .step .given .1))
+walk-returns t c = step-stops (step-told (c .before .before .before .loop .inv .stepped) (c .before .step .given .1))
 
 walk-enum-known-step-2 : (t : ℕ) → walk-lts.Need-enum-known-step-2 (walk-claims t) (walk-at t) walk.Post walk-Inv-loop walk-μ-loop
 walk-enum-known-step-2 t c = search needs
@@ -159,7 +160,7 @@ walk-cast-lambda-at t c = search needs
 walk-lambda-at-requires : (t : ℕ) → walk-lts.Need-lambda-at-requires (walk-claims t) (walk-at t) walk.Post walk-Inv-loop walk-μ-loop
 walk-lambda-at-requires t c κs =
     let met = c .before .before in
-    omega (arith, step-lands (walk-met t met) .dart, walk-start t (met .before .before .before) .pre .1 .0 .lent .lambda-length)
+    omega (arith, step-lands (walk-met t met) .dart, walk-start t (met .before .before) .pre .1 .0 .lent .lambda-length)
 
 walk-is-gone-requires : (t : ℕ) → walk-lts.Need-is-gone-requires (walk-claims t) (walk-at t) walk.Post walk-Inv-loop walk-μ-loop
 walk-is-gone-requires t c κs = search needs
@@ -171,7 +172,7 @@ walk-second-row-requires : (t : ℕ) → walk-lts.Need-second-row-requires (walk
 walk-second-row-requires t c κs =
     let m = walk-meets t (c .before) in
     let met = walk-step t (c .before) in
-    let a = walk-start t (met .before .before .before) .args in
+    let a = walk-start t (met .before .before) .args in
     record {
       lambda-has = omega (arith, m .asked .dart, m .asked .lent .lambda-length);
       delta-has = omega (arith, m .asked .dart, m .asked .lent .delta-length);
@@ -188,7 +189,7 @@ walk-returns-3 : (t : ℕ) → walk-lts.Need-returns-3 (walk-claims t) (walk-at 
 walk-returns-3 t c =
     let s = c .before .before in
     let met = walk-step t (s .before .before) in
-    let a = walk-start t (met .before .before .before) .args in
+    let a = walk-start t (met .before .before) .args in
     pass-stops {y = NoPass} {p = met .step2 .given .0 .0} (walk-turned t (s .before) (no-second (lent (a .sizes) (a .rows) (a .lambda) (a .delta)) (a .l .0 - 1) (met .step2 .given .0 .0) (walk-second t s _ (c .enum-told .given .1))))
 
 walk-reading-requires-2 : (t : ℕ) → walk-lts.Need-reading-requires-2 (walk-claims t) (walk-at t) walk.Post walk-Inv-loop walk-μ-loop
@@ -196,7 +197,7 @@ walk-reading-requires-2 t c κs =
     let s = c .before .before .before in
     let m = walk-meets t (s .before .before) in
     let met = walk-step t (s .before .before) in
-    let start = walk-start t (met .before .before .before) in
+    let start = walk-start t (met .before .before) in
     let a = start .args in
     let two = walk-second t s _ (c .before .across .given .1) in
     let kernel : each (now (a .lambda)) (met .step2 .given .0 .0 .dart) ≡ a .l .0 - 1 = eqb-true _ _ (and-both _ _ (two .0) .0) in
@@ -237,17 +238,37 @@ walk-returns-5 t c =
     pass-stops {y = NoPass} {p = n .next .given .0 .0} (walk-turned t (n .before .before .before .before .before .before .before) (across-no-pass (walk-reached t n) (k .same-kernel .ensures) (not-true (k .same-kernel .result) (c .if2 .taken))))
 
 -- the dart reached bears the mark of the dart passed
-walk-passed : (t : ℕ) (c : walk-lts.Else2 (walk-claims t) (walk-at t) walk.Post walk-Inv-loop walk-μ-loop) → let n = c .before .before .before in let met = walk-step t (n .before .before .before .before .before .before .before .before) in let head = met .before .before .before in let a = walk-start t head .args in Turned (lent (a .sizes) (a .rows) (a .lambda) (a .delta)) (a .l .0) (a .from) (head .loop .at) (At (n .next .given .0 .0))
+walk-passed : (t : ℕ) (c : walk-lts.Else2 (walk-claims t) (walk-at t) walk.Post walk-Inv-loop walk-μ-loop) → let n = c .before .before .before in let met = walk-step t (n .before .before .before .before .before .before .before .before) in let head = met .before .before in let a = walk-start t head .args in Turned (lent (a .sizes) (a .rows) (a .lambda) (a .delta)) (a .l .0) (a .from) (head .loop .inv .at) (At (n .next .given .0 .0))
 walk-passed t c =
     let k = c .before in
     let n = k .before .before in
     walk-turned t (n .before .before .before .before .before .before .before) (across-ends (walk-reached t n) (k .same-kernel .ensures) (not-false (k .same-kernel .result) (c .if2 .left)))
 
+walk-reading-requires-3 : (t : ℕ) → walk-lts.Need-reading-requires-3 (walk-claims t) (walk-at t) walk.Post walk-Inv-loop walk-μ-loop
+walk-reading-requires-3 t c κs =
+    let n = c .before .before .before .before in
+    let met = walk-step t (n .before .before .before .before .before .before .before .before) in
+    let start = walk-start t (met .before .before) in
+    let p = start .pre .1 .0 in
+    (omega (arith, start .pre), record { top = p .top; lent = p .lent; under = omega (arith, p .under); row = p .row; dart = pass-comes (walk-passed t (c .before)) .dart })
+
 walk-loop-less : (t : ℕ) → walk-lts.Need-loop-less (walk-claims t) (walk-at t) walk.Post walk-Inv-loop walk-μ-loop
-walk-loop-less t c = omega (arith, pass-reads (walk-passed t c))
+walk-loop-less t c =
+    let n = c .before .before .before .before .before in
+    let met = walk-step t (n .before .before .before .before .before .before .before .before) in
+    let a = walk-start t (met .before .before) .args in
+    let at : Place = record { row = a .from .row; dart = n .next .given .0 .0 .dart; count = n .next .given .0 .0 .count } in
+    nearer (lent (a .sizes) (a .rows) (a .lambda) (a .delta)) (a .l .0 - 1) at (met .step2 .given .1) (across-lands (walk-reached t n)) (c .reading3 .result) (c .reading3 .ensures)
 
 walk-loop-again : (t : ℕ) → walk-lts.Need-loop-again (walk-claims t) (walk-at t) walk.Post walk-Inv-loop walk-μ-loop
-walk-loop-again t c = pass-comes (walk-passed t c)
+walk-loop-again t c =
+    let n = c .before .before .before .before .before in
+    let met = walk-step t (n .before .before .before .before .before .before .before .before) in
+    let start = walk-start t (met .before .before) in
+    record {
+      at = record { row = start .args .from .row; dart = n .next .given .0 .0 .dart; count = n .next .given .0 .0 .count };
+      stepped = record { above = start .pre .1 .1; way = pass-comes (walk-passed t (c .before .before)); read = c .reading3 .ensures };
+    }
 
 pub +reading+walk-spec : {M : Type 1} → statement M
 +reading+walk-spec = close μ-reading μ-walk (λ t. reading-lts.spec (reading-claims t)
@@ -264,8 +285,8 @@ pub +reading+walk-spec : {M : Type 1} → statement M
     walk-Inv-loop
     walk-μ-loop
     (walk-sub-t20 t)
-    (walk-loop-holds t)
     (walk-reading-requires t)
+    (walk-loop-holds t)
     (walk-enum-known-step t)
     (walk-returns t)
     (walk-enum-known-step-2 t)
@@ -283,5 +304,6 @@ pub +reading+walk-spec : {M : Type 1} → statement M
     (walk-enum-known-next t)
     (walk-same-kernel-requires t)
     (walk-returns-5 t)
+    (walk-reading-requires-3 t)
     (walk-loop-less t)
     (walk-loop-again t)
