@@ -118,20 +118,20 @@ module _ {f : Folded} {l i d total later : ℕ} {table : List ℕ} (s : Filled f
         }
 
     -- no walk begins at a dart that is not on the level
-    pub filled-absent : each lambda d < l → {after : List ℕ} {sum top : ℕ} → after ≡ set table (i * N + d) absent → sum ≡ total → top ≡ later → Filled f l i (d + 1) sum top after
+    pub filled-absent : each lambda d < l → {place : ℕ} → place ≡ i * N + d → {after : List ℕ} {sum top : ℕ} → after ≡ set table place absent → sum ≡ total → top ≡ later → Filled f l i (d + 1) sum top after
     unfolding atWalk reads
-    filled-absent x w q y =
+    filled-absent x is w q y =
         let g : gone (each lambda) l d ≡ true = lt-ltb (each lambda d) l x in
         let z : max later 0 ≡ later = omega arith in
-        rw (w, q, y) (rw (add-zero, z) at (more {e = absent} {c = 0} {o = 0} (rw (g, atWalk)) (rw g) (rw g) (omega arith) (rw g)))
+        rw (w, is, q, y) (rw (add-zero, z) at (more {e = absent} {c = 0} {o = 0} (rw (g, atWalk)) (rw g) (rw g) (omega arith) (rw g)))
 
     module _ (on : l ≤ each lambda d) where
       there : gone (each lambda) l d ≡ false
       there = le-ltb (each lambda d) l on
 
-      pub filled-end : {row e c o : ℕ} → the-walk f l i d ≡ ended row e c → c ≤ 8193 → o ≡ stands f l i d → {after : List ℕ} {sum top : ℕ} → after ≡ set table (i * N + d) e → sum ≡ total + c → top ≡ max later o → Filled f l i (d + 1) sum top after
+      pub filled-end : {row e c o : ℕ} → the-walk f l i d ≡ ended row e c → c ≤ 8193 → o ≡ stands f l i d → {place : ℕ} → place ≡ i * N + d → {after : List ℕ} {sum top : ℕ} → after ≡ set table place e → sum ≡ total + c → top ≡ max later o → Filled f l i (d + 1) sum top after
       unfolding atWalk reads
-      filled-end w few stood g q y = rw (g, q, y) (more (rw (there, w, atWalk)) (rw (there, w)) (rw (there, w)) few (rw there stood))
+      filled-end w few stood is g q y = rw (g, is, q, y) (more (rw (there, w, atWalk)) (rw (there, w)) (rw (there, w)) few (rw there stood))
 
       -- it is refused, the first of all
       pub filled-missed : {number row dart : ℕ} → the-walk f l i d ≡ stopped number row dart → {stop : Stop} {top : Level} → stopOf l stop ≡ refused number l row dart → Leaves f l record { stop = stop; total = total; since = top } table

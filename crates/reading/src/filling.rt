@@ -126,9 +126,9 @@ pub fn fill(
     let mut stop = Stop::Nowhere;
     let mut total: u32 = 0;
     let mut since = Level(0);
+    let mut place: usize = 0;
     'rows: for i in 0..n.0 + 1 {
         for d in 0..darts {
-            let place = i as usize * darts as usize + d as usize;
             if answers::is_gone(answers::lambda_at(lambda, d as usize), level) {
                 table[place] = ABSENT;
             } else {
@@ -159,6 +159,7 @@ pub fn fill(
                     }
                 }
             }
+            place += 1;
         }
     }
     Walks { stop, total, since }

@@ -1,11 +1,11 @@
--- `reading::fill` meets its contract. The invariant of both loops: the table is filled so far, and no walk so far was refused. The measures: the rows and the darts that are left. Assumes nothing.
+-- `reading::fill` meets its contract. The invariant of both loops: the table is filled so far, the place is that of the row and dart, and no walk so far was refused. The measures: the rows and the darts that are left. Assumes nothing.
 use mathlib.Core.Path.{_≡_, refl, ap, _∙_}
 use mathlib.Core.Logic.{⊎-elim}
 use Prim.Native.Nat.{ℕ, _+_, _-_, _*_, _≤_, _<_, zero-le}
 use native.Mathlib.Omega.{arith}
 use lib.ListN.{length}
 use denote.Ref.{now}
-use Rattle.maps.specs.Table.{entry}
+use Rattle.maps.specs.Table.{each}
 use borrow.Author.Needs.{needs}
 use borrow.Author.Tests.{not-true, not-false}
 use Rattle.laws.proofs.Tables.{in-table, table-size}
@@ -19,16 +19,16 @@ use Rattle.reading.proofs.filling.fill.Statement.{statement}
 use Rattle.reading.proofs.filling.fill.Tie as tie
 
 abbrev Inv-loop : tie.InvT-loop
-Inv-loop sizes rows lambda delta level table₀ darts stop₀ total₀ since₀ i d₀ i-end table stop total since d = (d ≤ darts) × (i < i-end) × Filled (pyramid sizes rows lambda delta) (level .0) i d total (since .0) table × (stop ≡ Nowhere)
+Inv-loop sizes rows lambda delta level table₀ darts stop₀ total₀ since₀ place₀ i d₀ i-end table stop total since place d = (d ≤ darts) × (i < i-end) × Filled (pyramid sizes rows lambda delta) (level .0) i d total (since .0) table × (stop ≡ Nowhere) × (place ≡ i * darts + d)
 
 abbrev μ-loop : tie.MeasureT-loop
-μ-loop sizes rows lambda delta level table₀ darts stop₀ total₀ since₀ i d₀ i-end table stop total since d = darts - d
+μ-loop sizes rows lambda delta level table₀ darts stop₀ total₀ since₀ place₀ i d₀ i-end table stop total since place d = darts - d
 
 abbrev Inv-rows : tie.InvT-rows
-Inv-rows sizes rows lambda delta level table₀ darts stop₀ total₀ since₀ i₀ i-end table stop total since i = (i ≤ i-end) × Filled (pyramid sizes rows lambda delta) (level .0) i 0 total (since .0) table × (stop ≡ Nowhere)
+Inv-rows sizes rows lambda delta level table₀ darts stop₀ total₀ since₀ place₀ i₀ i-end table stop total since place i = (i ≤ i-end) × Filled (pyramid sizes rows lambda delta) (level .0) i 0 total (since .0) table × (stop ≡ Nowhere) × (place ≡ i * darts)
 
 abbrev μ-rows : tie.MeasureT-rows
-μ-rows sizes rows lambda delta level table₀ darts stop₀ total₀ since₀ i₀ i-end table stop total since i = i-end - i
+μ-rows sizes rows lambda delta level table₀ darts stop₀ total₀ since₀ place₀ i₀ i-end table stop total since place i = i-end - i
 
 -- a level as a number
 abbrev number : Level → ℕ
@@ -43,8 +43,8 @@ abbrev turn : tie.Else2 Inv-loop μ-loop Inv-rows μ-rows → tie.In-loop Inv-lo
 turn c = c .before .before .before .before .before
 
 -- the row is one of the map, the place lies in rows and table, and every number on the way is small
-place : (c : tie.In-loop Inv-loop μ-loop Inv-rows μ-rows) → let a = start c .args in let i = c .before .before .before .rows .i in let at = i * a .sizes .darts + c .before .loop .d in
-    (i ≤ a .sizes .n .0) × (i * a .sizes .darts ≤ 16384) × (at < 20480) × (at < length (now (a .rows))) × (at < length (c .before .loop .table)) × (c .before .loop .total ≤ 8193 * 20480)
+place : (c : tie.In-loop Inv-loop μ-loop Inv-rows μ-rows) → let a = start c .args in let i = c .before .before .before .rows .i in let at = c .before .loop .place in
+    (i ≤ a .sizes .n .0) × (at ≡ i * a .sizes .darts + c .before .loop .d) × (at < 20480) × (at < length (now (a .rows))) × (at < length (c .before .loop .table)) × (c .before .loop .total ≤ 8193 * 20480)
 place c =
     let a = start c .args in
     let p = start c .pre .0 .lent in
@@ -53,7 +53,8 @@ place c =
     let z = table-size (a .sizes .n .0) (a .sizes .darts) i (p .dimension) (p .darts) li in
     let y = in-table (a .sizes .n .0) (a .sizes .darts) i (c .before .loop .d) li (c .loop-test .taken) in
     let s = c .before .loop .inv .2 in
-    (li, z .0, omega arith, omega (arith, p .rows-length), omega (arith, s .size), omega (arith, s .small))
+    let is = c .before .loop .inv .4 in
+    (li, is, omega (arith, is), omega (arith, is, p .rows-length), omega (arith, is, s .size), omega (arith, s .small))
 
 -- the walk of the dart by the row begins
 first : (c : tie.In-loop Inv-loop μ-loop Inv-rows μ-rows) → let a = start c .args in let i = c .before .before .before .rows .i in let d = c .before .loop .d in
@@ -62,29 +63,18 @@ first c =
     let a = start c .args in
     next-first (lent (a .sizes) (a .rows) (a .lambda) (a .delta)) (a .level .0) (c .before .before .before .rows .i) (c .before .loop .d) (place c .0) (c .loop-test .taken)
 
+-- the entry read there is that of the row and dart
+reads : (c : tie.In-loop Inv-loop μ-loop Inv-rows μ-rows) → let a = start c .args in each (now (a .rows)) (c .before .loop .place) ≡ each (now (a .rows)) (c .before .before .before .rows .i * a .sizes .darts + c .before .loop .d)
+reads c = ap (each (now (start c .args .rows))) (place c .1)
+
 add-i-end : tie.Need-add-i-end Inv-loop μ-loop Inv-rows μ-rows
 add-i-end c = search needs
 
 rows-holds : tie.Need-rows-holds Inv-loop μ-loop Inv-rows μ-rows
-rows-holds c = let a = c .before .before .before .before .before .before .args in (zero-le, filled-none (lent (a .sizes) (a .rows) (a .lambda) (a .delta)) (a .level .0) (c .before .before .before .before .before .before .pre .1), refl)
+rows-holds c = let a = c .before .before .before .before .before .before .args in (zero-le, filled-none (lent (a .sizes) (a .rows) (a .lambda) (a .delta)) (a .level .0) (c .before .before .before .before .before .before .pre .1), refl, omega arith)
 
 loop-holds : tie.Need-loop-holds Inv-loop μ-loop Inv-rows μ-rows
-loop-holds c = let v = c .before .rows .inv in (zero-le, c .rows-test .taken, v .1, v .2)
-
-cast-place : tie.Need-cast-place Inv-loop μ-loop Inv-rows μ-rows
-cast-place c = search needs
-
-cast-place-2 : tie.Need-cast-place-2 Inv-loop μ-loop Inv-rows μ-rows
-cast-place-2 c = omega (arith, start c .pre .0 .lent .darts)
-
-mul-place : tie.Need-mul-place Inv-loop μ-loop Inv-rows μ-rows
-mul-place c = omega (arith, place c)
-
-cast-place-3 : tie.Need-cast-place-3 Inv-loop μ-loop Inv-rows μ-rows
-cast-place-3 c = search needs
-
-add-place : tie.Need-add-place Inv-loop μ-loop Inv-rows μ-rows
-add-place c = omega (arith, place c)
+loop-holds c = let v = c .before .rows .inv in (zero-le, c .rows-test .taken, v .1, v .2, omega (arith, v .3))
 
 lambda-at-requires : tie.Need-lambda-at-requires Inv-loop μ-loop Inv-rows μ-rows
 lambda-at-requires c κs = search needs
@@ -116,7 +106,7 @@ add-total c = omega (arith, place (turn (c .before .before .before)))
 onward-requires : tie.Need-onward-requires Inv-loop μ-loop Inv-rows μ-rows
 onward-requires c κs =
     let t = turn (c .before .before .before) in
-    (start t .pre .0, record { row = place t .0; start = t .loop-test .taken; read = refl; dart = c .before .before .before .if2 .left; gone = off-level (start t .args .level .0) (c .before .before .lambda-at2 .ensures) (c .before .is-gone2 .ensures) (not-false (c .before .is-gone2 .result) (c .if3 .left)) })
+    (start t .pre .0, record { row = place t .0; start = t .loop-test .taken; read = reads t; dart = c .before .before .before .if2 .left; gone = off-level (start t .args .level .0) (c .before .before .lambda-at2 .ensures) (c .before .is-gone2 .ensures) (not-false (c .before .is-gone2 .result) (c .if3 .left)) })
 
 enum-known-end : tie.Need-enum-known-end Inv-loop μ-loop Inv-rows μ-rows
 enum-known-end c = search needs
@@ -139,6 +129,9 @@ later-requires c κs = search needs
 enum-known-why : tie.Need-enum-known-why Inv-loop μ-loop Inv-rows μ-rows
 enum-known-why c = search needs
 
+add-place : tie.Need-add-place Inv-loop μ-loop Inv-rows μ-rows
+add-place c = omega (arith, place (c .before .before .before))
+
 add-d : tie.Need-add-d Inv-loop μ-loop Inv-rows μ-rows
 add-d c = search needs
 
@@ -151,17 +144,18 @@ loop-again c =
     let a = start t .args in
     let p = start t .pre .0 in
     let v = t .before .loop .inv in
-    let e = entry (a .sizes .darts) (now (a .rows)) (t .before .before .before .rows .i) (t .before .loop .d) in
+    let e = each (now (a .rows)) (t .before .loop .place) in
     let on = on-level (a .level .0) (c .before .before .lambda-at .ensures) (c .before .is-gone .ensures) in (
       omega arith,
       v .1,
       ⊎-elim
-          (λ w. filled-absent (v .2) (place t .0) (t .loop-test .taken) (off-level (a .level .0) (c .before .before .lambda-at .ensures) (c .before .is-gone .ensures) (w .0 .taken)) (w .1) (w .2) (ap number (w .3)))
+          (λ w. filled-absent (v .2) (place t .0) (t .loop-test .taken) (off-level (a .level .0) (c .before .before .lambda-at .ensures) (c .before .is-gone .ensures) (w .0 .taken)) (v .4) (w .1) (w .2) (ap number (w .3)))
           (⊎-elim
-          (λ w. filled-end (v .2) (place t .0) (t .loop-test .taken) (on (w .0 .left)) (arrives (first t) refl (w .2 .left) (p .allowed e (w .2 .left)) (on-level (a .level .0) (w .3 .ensures) (w .4 .ensures) (not-true (w .4 .result) (w .5 .taken)))) (omega arith) (arrived (first t) refl (on-level (a .level .0) (w .3 .ensures) (w .4 .ensures) (not-true (w .4 .result) (w .5 .taken)))) (w .6) (w .7) (ap number (w .8) ∙ omega arith))
-          (λ w. let f = rw (w .8 .given .1) at (w .6 .ensures) in filled-end (v .2) (place t .0) (t .loop-test .taken) (on (w .0 .left)) (f .is) (omega (arith, f .few, p .lent .darts)) (f .stands) (w .12) (w .13) (ap number (w .14) ∙ w .11 .ensures)))
+          (λ w. filled-end (v .2) (place t .0) (t .loop-test .taken) (on (w .0 .left)) (arrives (first t) (reads t) (w .2 .left) (p .allowed e (w .2 .left)) (on-level (a .level .0) (w .3 .ensures) (w .4 .ensures) (not-true (w .4 .result) (w .5 .taken)))) (omega arith) (arrived (first t) (reads t) (on-level (a .level .0) (w .3 .ensures) (w .4 .ensures) (not-true (w .4 .result) (w .5 .taken)))) (v .4) (w .6) (w .7) (ap number (w .8) ∙ omega arith))
+          (λ w. let f = rw (w .8 .given .1) at (w .6 .ensures) in filled-end (v .2) (place t .0) (t .loop-test .taken) (on (w .0 .left)) (f .is) (omega (arith, f .few, p .lent .darts)) (f .stands) (v .4) (w .12) (w .13) (ap number (w .14) ∙ w .11 .ensures)))
           (c .if1 .came),
       v .3,
+      omega (arith, v .4),
     )
 
 add-i : tie.Need-add-i Inv-loop μ-loop Inv-rows μ-rows
@@ -171,7 +165,7 @@ rows-less : tie.Need-rows-less Inv-loop μ-loop Inv-rows μ-rows
 rows-less c = search needs
 
 rows-again : tie.Need-rows-again Inv-loop μ-loop Inv-rows μ-rows
-rows-again c = let v = c .before .loop .inv in (omega arith, filled-row (v .2) (omega arith), v .3)
+rows-again c = let v = c .before .loop .inv in (omega arith, filled-row (v .2) (omega arith), v .3, omega (arith, v .4))
 
 same-length : tie.Need-same-length Inv-loop μ-loop Inv-rows μ-rows
 same-length c = search needs
@@ -185,7 +179,7 @@ same-length-2 c = search needs
 returns-2 : tie.Need-returns-2 Inv-loop μ-loop Inv-rows μ-rows
 returns-2 c =
     let t = c .before .before .before .before .before in
-    filled-missed (t .before .loop .inv .2) (place t .0) (t .loop-test .taken) (on-level (start t .args .level .0) (c .before .before .before .before .lambda-at .ensures) (c .before .before .before .is-gone .ensures) (c .before .before .if1 .left)) (strays (first t) refl (c .if2 .taken)) refl
+    filled-missed (t .before .loop .inv .2) (place t .0) (t .loop-test .taken) (on-level (start t .args .level .0) (c .before .before .before .before .lambda-at .ensures) (c .before .before .before .is-gone .ensures) (c .before .before .if1 .left)) (strays (first t) (reads t) (c .if2 .taken)) refl
 
 same-length-3 : tie.Need-same-length-3 Inv-loop μ-loop Inv-rows μ-rows
 same-length-3 c = search needs
@@ -208,11 +202,6 @@ fill-spec =
     add-i-end
     rows-holds
     loop-holds
-    cast-place
-    cast-place-2
-    mul-place
-    cast-place-3
-    add-place
     (λ c. search needs)
     lambda-at-requires
     (λ c κs. search needs)
@@ -233,6 +222,7 @@ fill-spec =
     add-total-2
     later-requires
     enum-known-why
+    add-place
     add-d
     loop-less
     loop-again
