@@ -14,6 +14,11 @@ fn taken(name: &[u8]) {
     io::write_all(1, b": taken\n");
 }
 
+fn converted(name: &[u8]) {
+    io::write_all(1, name);
+    io::write_all(1, b": converted\n");
+}
+
 fn refused(name: &[u8], refusal: Refusal) {
     io::write_all(1, name);
     io::write_all(1, b": ");
@@ -140,6 +145,75 @@ fn added(name: &[u8], h: Level) {
     }
 }
 
+// What is converted: the first bytes of a buffer.
+fn convert_part(name: &[u8], bytes: &[u8], length: usize) {
+    let mut rows = [0u16; 514];
+    let mut lambda = [0u8; 257];
+    let mut delta = [0u8; 257];
+    let mut table = [0u16; 514];
+    let mut new = [0u8; 1600];
+    if length <= bytes.len() {
+        match converting::convert(
+            &bytes[..length],
+            &mut rows,
+            &mut lambda,
+            &mut delta,
+            &mut table,
+            &mut new,
+        ) {
+            writing::Written::Bytes(_) => converted(name),
+            writing::Written::Refused(r) => refused(name, r),
+        }
+    }
+}
+
+fn convert_front(name: &[u8], bytes: &[u8; 1050], length: usize) {
+    convert_part(name, bytes, length);
+}
+
+// An old record, with rows of one byte an entry, in which every dart is its own neighbour: n = 1, h = 0, N = low + 256 high.
+fn one_byte_rows(name: &[u8], low: u8, high: u8) {
+    let mut bytes = [0u8; 1050];
+    let size = low as usize + 256 * high as usize + 3;
+    bytes[0] = 1;
+    bytes[1] = 4;
+    bytes[3] = 1;
+    bytes[5] = low;
+    bytes[6] = high;
+    field(&mut bytes, 7, 0x20, low, high);
+    free_from(&mut bytes, 10);
+    field(&mut bytes, 7 + size, 0x21, low, high);
+    free_from(&mut bytes, 10 + size);
+    field(&mut bytes, 7 + 2 * size, 0x30, low, high);
+    marks_from(&mut bytes, 10 + 2 * size, 0);
+    field(&mut bytes, 7 + 3 * size, 0x31, low, high);
+    marks_from(&mut bytes, 10 + 3 * size, 1);
+    convert_front(name, &bytes, 7 + 4 * size);
+}
+
+// A field's tag and length.
+fn field(bytes: &mut [u8; 1050], at: usize, tag: u8, low: u8, high: u8) {
+    if at < 1040 {
+        bytes[at] = tag;
+        bytes[at + 1] = low;
+        bytes[at + 2] = high;
+    }
+}
+
+// From here to the end a row in which every dart is its own neighbour, as far as a byte tells.
+fn free_from(bytes: &mut [u8; 1050], from: usize) {
+    for k in from..1050 {
+        bytes[k] = ((k - from) % 256) as u8;
+    }
+}
+
+// From here to the end one mark for every dart.
+fn marks_from(bytes: &mut [u8; 1050], from: usize, mark: u8) {
+    for k in from..1050 {
+        bytes[k] = mark;
+    }
+}
+
 fn main() {
     unchecked_reading();
     dimensions();
@@ -147,4 +221,6 @@ fn main() {
     heights();
     added(b"added at h 31", Level(31));
     added(b"added at h 32", Level(32));
+    one_byte_rows(b"one-byte rows at N 256", 0, 1);
+    one_byte_rows(b"one-byte rows at N 257", 1, 1);
 }
