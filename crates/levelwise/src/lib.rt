@@ -6,8 +6,6 @@ use answers::Onward;
 use answers::Question;
 use answers::Refusal;
 use answers::Sizes;
-use questions::Neighbour;
-use questions::Reading;
 ghost use mathlib.Core.Path.{_≡_};
 ghost use mathlib.Core.Bool.{_&&_};
 ghost use Prim.Native.Nat.{_<_};
@@ -16,8 +14,20 @@ ghost use lib.Dec.{eqb};
 ghost use Rattle.maps.specs.Table.{each};
 ghost use Rattle.maps.specs.Read.{readingOf, readLentByLevels};
 ghost use Rattle.answers.specs.Pyramid.{lent};
-ghost use Rattle.questions.specs.Answers.{valueOf};
+ghost use Rattle.levelwise.specs.Answers.{valueOf};
 ghost use Rattle.levelwise.specs.Ends.{walkedOf, Asked, Reads, Passable, Second};
+
+// A neighbour, and the number of base entries read on the way to it.
+pub struct Neighbour {
+    pub dart: u16,
+    pub count: u32,
+}
+
+// A neighbour, or a refusal.
+pub enum Answered {
+    Found(Neighbour),
+    Refused(Refusal),
+}
 
 // A row of a dart, and the number of base entries read so far: the row to read next, or the row read last where the dart was met.
 struct Place {
@@ -149,23 +159,23 @@ fn walk(sizes: Sizes, rows: &[u16], lambda: &[u8], delta: &[u8], l: Level, from:
 }
 
 // The answer to what was asked.
-fn answer(asked: Question, end: End) -> Reading
+fn answer(asked: Question, end: End) -> Answered
     ensures { λ r. ⌜ valueOf r ≡ readingOf (asked .level .0) (walkedOf (asked .involution .0) (asked .dart) end) ⌝ }
 {
     let level = asked.level;
     let involution = asked.involution;
     match end {
-        End::At(met) => Reading::Found(Neighbour {
+        End::At(met) => Answered::Found(Neighbour {
             dart: met.dart,
             count: met.count,
         }),
         End::Stopped(stop, at) => {
             let row = at.row;
             match stop {
-                Stop::TooLong => Reading::Refused(Refusal::TooLong(level, involution, asked.dart)),
-                Stop::Strays => Reading::Refused(Refusal::Strays(level, row, at.dart)),
-                Stop::Marks => Reading::Refused(Refusal::Marks(level, row, at.dart)),
-                Stop::NoPass => Reading::Refused(Refusal::NoPass(level, row, at.dart)),
+                Stop::TooLong => Answered::Refused(Refusal::TooLong(level, involution, asked.dart)),
+                Stop::Strays => Answered::Refused(Refusal::Strays(level, row, at.dart)),
+                Stop::Marks => Answered::Refused(Refusal::Marks(level, row, at.dart)),
+                Stop::NoPass => Answered::Refused(Refusal::NoPass(level, row, at.dart)),
             }
         }
     }
@@ -178,11 +188,11 @@ pub fn read_by_levels(
     lambda: &[u8],
     delta: &[u8],
     asked: Question,
-) -> Reading
+) -> Answered
     ensures { λ r. ⌜ valueOf r ≡ readLentByLevels (lent sizes (rows .entry) (lambda .entry) (delta .entry)) (asked .level .0) (asked .involution .0) (asked .dart) ⌝ }
 {
     if let Check::Refused(r) = questions::question(sizes, rows, lambda, delta, asked) {
-        return Reading::Refused(r);
+        return Answered::Refused(r);
     }
     let level = asked.level;
     let involution = asked.involution;

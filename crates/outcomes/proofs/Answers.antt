@@ -13,9 +13,9 @@ use Rattle.answers.specs.declared.Refusal.the-variants.{Dimension, Darts, Heigh
 use Rattle.answers.specs.declared.Numbers.{Numbers}
 use Rattle.answers.specs.declared.Check.{Check}
 use Rattle.answers.specs.declared.Check.the-variants.{Accepted, Refused}
-use Rattle.questions.specs.Answers.{valueOf}
-use Rattle.questions.specs.declared.Reading.{Reading}
-use Rattle.questions.specs.declared.Reading.the-variants.{Found, Refused as Unread}
+use Rattle.levelwise.specs.Answers.{valueOf}
+use Rattle.levelwise.specs.declared.Answered.{Answered}
+use Rattle.levelwise.specs.declared.Answered.the-variants.{Found, Refused as Unread}
 use Rattle.reading.specs.Answers.{valueOf as linkOf, standsSince, checkOf, totalOf, latestOf}
 use Rattle.reading.specs.declared.Reading.{Reading as Linked}
 use Rattle.reading.specs.declared.Reading.the-variants.{Found as Stands, Refused as Unlinked}
@@ -101,11 +101,11 @@ check-told Accepted = refl
 check-told (Refused r) = refusal-told checkFrom Refused (λ k l i d. refl) r
 
 -- the answer of a reading by levels
-abbrev pub readingFrom : Value → Reading
+abbrev pub readingFrom : Value → Answered
 readingFrom (found neighbour count) = Found (record { dart = neighbour; count = count })
 readingFrom (none k l i d) = Unread (refusalFrom k l i d)
 
-pub reading-told : (r : Reading) → readingFrom (valueOf r) ≡ r
+pub reading-told : (r : Answered) → readingFrom (valueOf r) ≡ r
 reading-told (Found neighbour) = refl
 reading-told (Unread r) = refusal-told (λ v. readingFrom (unless v (none 0 0 0 0))) Unread (λ k l i d. refl) r
 

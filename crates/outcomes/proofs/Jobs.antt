@@ -6,7 +6,7 @@ use Rattle.maps.specs.CheckPyramid.{checkLent}
 use Rattle.maps.specs.Census.{censusLent}
 use Rattle.maps.specs.Folded.{ofParts}
 use Rattle.answers.specs.Numbers.{verdictOf, said}
-use Rattle.questions.specs.Answers.{valueOf}
+use Rattle.levelwise.specs.Answers.{valueOf}
 use Rattle.taking.specs.Answers.{takenOf}
 use Rattle.writing.specs.Answers.{writtenOf}
 use Rattle.shrinking.specs.Answers.{factorOf}

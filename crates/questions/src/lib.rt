@@ -1,4 +1,4 @@
-// What both readings are asked and answer: a neighbour with its count, or a refusal. Assumes nothing.
+// What is tested before either reading of a neighbour. Assumes nothing.
 use answers::Check;
 use answers::Question;
 use answers::Refusal;
@@ -7,18 +7,6 @@ ghost use mathlib.Core.Path.{_≡_};
 ghost use Rattle.maps.specs.Read.{question as questionOf};
 ghost use Rattle.answers.specs.Numbers.{verdictOf};
 ghost use Rattle.answers.specs.Pyramid.{lent};
-
-// A neighbour, and the number of base entries read on the way to it.
-pub struct Neighbour {
-    pub dart: u16,
-    pub count: u32,
-}
-
-// A neighbour, or a refusal.
-pub enum Reading {
-    Found(Neighbour),
-    Refused(Refusal),
-}
 
 // What is tested before a walk: 1, 2, 3, 4, 11, 13, then 12, 8 and 12 of the starting dart.
 pub fn question(sizes: Sizes, rows: &[u16], lambda: &[u8], delta: &[u8], asked: Question) -> Check

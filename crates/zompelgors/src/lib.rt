@@ -30,7 +30,7 @@ ghost use Rattle.maps.specs.Rebase.{rebaseRows, rebaseLambda, rebaseDelta, reba
 ghost use Rattle.answers.specs.Numbers.{refusalOf, verdictOf};
 ghost use Rattle.answers.specs.Pyramid.{given};
 ghost use Rattle.checking.specs.Answers.{addedOf, heightOf};
-ghost use Rattle.questions.specs.Answers.{valueOf};
+ghost use Rattle.levelwise.specs.Answers.{valueOf};
 ghost use Rattle.reading.specs.Answers.{valueOf as linkOf, standsSince, checkOf, totalOf, latestOf};
 ghost use Rattle.rows.specs.Answers.{verdictOfSurvivors, countOfSurvivors};
 ghost use Rattle.taking.specs.Answers.{takenOf, taken};
@@ -165,11 +165,11 @@ fn checked_as(check: Check) -> ZgRefusal
 }
 
 // The answer of a reading by levels.
-fn read_as(answer: questions::Reading) -> ZgReading
+fn read_as(answer: levelwise::Answered) -> ZgReading
     ensures { λ r. ⌜ r ≡ readingFor (valueOf answer) ⌝ }
 {
     match answer {
-        questions::Reading::Found(found) => {
+        levelwise::Answered::Found(found) => {
             let refusal = accepts();
             ZgReading {
                 refusal,
@@ -177,7 +177,7 @@ fn read_as(answer: questions::Reading) -> ZgReading
                 neighbour: found.dart,
             }
         },
-        questions::Reading::Refused(why) => {
+        levelwise::Answered::Refused(why) => {
             let refusal = refused(why);
             ZgReading {
                 refusal,
