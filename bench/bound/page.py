@@ -81,7 +81,7 @@ READS_TEXT = """
 ## Proved: base entries read
 
 A walk's count is the number of base entries that it reads; that the code reads each of them once is seen in its loop (docs/TRUST.md: a contract can't forbid work that is thrown away).
-A pyramid is accepted when zg_take or zg_check gave 0 for it, or zg_add or zg_join gave 0, and nothing wrote its rows, Λ or Δ since (`accepted-pyramid` in AcceptedJobs.antt, `add-pyramid` in AddedJobs.antt, `taken-both` in crates/taking/proofs/Joined.antt, `join-joins` in JoinedJobs.antt); zg_rebase leaves one too (`packed-again` in crates/rebasing/proofs/PackedAgain.antt).
+A pyramid is accepted when zg_take or zg_check gave 0 for it, or zg_add or zg_join gave 0, and nothing wrote its rows, Λ or Δ since (`accepted-pyramid` in AcceptedJobs.antt, `add-pyramid` in AddedJobs.antt, `taken-both` in crates/taking/proofs/Joined.antt, `join-joins` in JoinedJobs.antt); zg_rebase leaves one too (`packed-again` in crates/starting_again/proofs/PackedAgain.antt).
 So check once what comes from outside, and budget by the first two lines.
 """
 

@@ -13,9 +13,9 @@ use Rattle.answers.specs.declared.Refusal.the-variants.{Dimension, Darts, Heigh
 use Rattle.answers.specs.declared.Numbers.{Numbers}
 use Rattle.answers.specs.declared.Check.{Check}
 use Rattle.answers.specs.declared.Check.the-variants.{Accepted, Refused}
-use Rattle.levelwise.specs.Answers.{valueOf}
-use Rattle.levelwise.specs.declared.Answered.{Answered}
-use Rattle.levelwise.specs.declared.Answered.the-variants.{Found, Refused as Unread}
+use Rattle.by_levels.specs.Answers.{valueOf}
+use Rattle.by_levels.specs.declared.Answered.{Answered}
+use Rattle.by_levels.specs.declared.Answered.the-variants.{Found, Refused as Unread}
 use Rattle.reading.specs.Answers.{valueOf as linkOf, standsSince, checkOf, totalOf, latestOf}
 use Rattle.reading.specs.declared.Reading.{Reading as Linked}
 use Rattle.reading.specs.declared.Reading.the-variants.{Found as Stands, Refused as Unlinked}
@@ -34,15 +34,15 @@ use Rattle.writing.specs.Answers.{Outcome as Writing, writtenOf}
 use Rattle.writing.specs.declared.Written.{Written}
 use Rattle.writing.specs.declared.Written.the-variants.{Bytes, Refused as NotWritten}
 use Rattle.maps.specs.Decimation.{double}
-use Rattle.shrinking.specs.Answers.{Outcome as Shrinking, factorOf}
-use Rattle.shrinking.specs.declared.Factor.{Factor}
-use Rattle.shrinking.specs.declared.Factor.the-variants.{By, Empty, Refused as NotAnswered}
+use Rattle.decimation.specs.Answers.{Outcome as Shrinking, factorOf}
+use Rattle.decimation.specs.declared.Factor.{Factor}
+use Rattle.decimation.specs.declared.Factor.the-variants.{By, Empty, Refused as NotAnswered}
 use Rattle.joining.specs.Answers.{joinedOf, heightOf as lowerOf}
 use Rattle.joining.specs.declared.Joined.{Joined}
 use Rattle.joining.specs.declared.Joined.the-variants.{Lowered, Refused as NotJoined}
-use Rattle.rebasing.specs.Answers.{Outcome as Rebasing, rebasedOf}
-use Rattle.rebasing.specs.declared.Rebased.{Rebased}
-use Rattle.rebasing.specs.declared.Rebased.the-variants.{Base, Refused as NotRebased}
+use Rattle.starting_again.specs.Answers.{Outcome as Rebasing, rebasedOf}
+use Rattle.starting_again.specs.declared.Rebased.{Rebased}
+use Rattle.starting_again.specs.declared.Rebased.the-variants.{Base, Refused as NotRebased}
 
 abbrev level : ℕ → Level
 level l = record { 0 = l }

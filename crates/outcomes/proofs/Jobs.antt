@@ -6,11 +6,11 @@ use Rattle.maps.specs.CheckPyramid.{checkLent}
 use Rattle.maps.specs.Census.{censusLent}
 use Rattle.maps.specs.Folded.{ofParts}
 use Rattle.answers.specs.Numbers.{verdictOf, said}
-use Rattle.levelwise.specs.Answers.{valueOf}
+use Rattle.by_levels.specs.Answers.{valueOf}
 use Rattle.taking.specs.Answers.{takenOf}
 use Rattle.writing.specs.Answers.{writtenOf}
-use Rattle.shrinking.specs.Answers.{factorOf}
-use Rattle.rebasing.specs.Answers.{rebasedOf}
+use Rattle.decimation.specs.Answers.{factorOf}
+use Rattle.starting_again.specs.Answers.{rebasedOf}
 use Rattle.answers.proofs.in_range.Reads as in-range
 use Rattle.answers.proofs.both.Reads as both
 use Rattle.answers.proofs.row_fits.Reads as row-fits
@@ -41,22 +41,22 @@ use Rattle.rows.proofs.survivors.Reads as survivors
 use Rattle.questions.proofs.question.Reads as question
 use Rattle.reading.proofs.read.Reads as read
 use Rattle.reading.proofs.unfold.Reads as unfold-level
-use Rattle.levelwise.proofs.read_by_levels.Reads as by-levels
+use Rattle.by_levels.proofs.read_by_levels.Reads as by-levels
 use Rattle.cells.proofs.mark_cells.Reads as mark-cells
 use Rattle.taking.proofs.take.Reads as take
 use Rattle.taking.proofs.take_old.Reads as take-old
 use Rattle.writing.proofs.write.Reads as write
 use Rattle.writing.proofs.write_accepted.Reads as write-accepted
-use Rattle.shrinking.proofs.decimation.Reads as decimation
+use Rattle.decimation.proofs.decimation.Reads as decimation
 use Rattle.counting.proofs.census.Reads as census
 use Rattle.counting.proofs.census_into.Reads as census-into
 use Rattle.counting.proofs.OneCensus.{leaves-one, put-leaves-one}
-use Rattle.partner.proofs.import.Reads as import-map
-use Rattle.partner.proofs.export.Reads as export-map
+use Rattle.combinatorial.proofs.import.Reads as import-map
+use Rattle.combinatorial.proofs.export.Reads as export-map
 use Rattle.regions.proofs.name_regions.Reads as name-regions
 use Rattle.converting.proofs.convert.Reads as convert
 use Rattle.joining.proofs.join.Reads as join
-use Rattle.rebasing.proofs.rebase.Reads as rebase
+use Rattle.starting_again.proofs.rebase.Reads as rebase
 use Rattle.outcomes.proofs.One.{OneOutcome, one-outcome, nothing, three, same-three, four, same-four, five, same-five, pair, same-pair}
 use Rattle.outcomes.proofs.Answers.{checkFrom, check-told, readingFrom, reading-told, valuesOfLink, linkFrom, link-told, valuesOfTotal, totalFrom, total-told, valuesOfSurvivors, survivorsFrom, survivors-told, valuesOfAdded, addedFrom, added-told, takenFrom, taken-told, writtenFrom, written-told, factorFrom, factor-told, valuesOfJoined, joinedFrom, joined-told, rebasedFrom, rebased-told, numbersFrom, numbers-told}
 use Rattle.outcomes.proofs.Cells.{marking-same}

@@ -4,7 +4,7 @@ use mathlib.Core.List.{List}
 use Prim.Native.Nat.{ℕ}
 use Rattle.maps.specs.Verdict.{Verdict, accepted, refused}
 use Rattle.maps.specs.Partner.{importLent, ImportLeaves, exportLent, Exports}
-use Rattle.partner.proofs.Bases.{yields-one, rows-one}
+use Rattle.combinatorial.proofs.Bases.{yields-one, rows-one}
 
 leaves-same : (M : ℕ) (edges vertices found : List ℕ) (v : Verdict) (rows rows′ : List ℕ) → ImportLeaves M edges vertices found v rows → ImportLeaves M edges vertices found v rows′ → rows ≡ rows′
 leaves-same M edges vertices found accepted rows rows′ y y′ = yields-one M edges vertices rows rows′ y y′

@@ -16,8 +16,8 @@ use Rattle.maps.specs.Census.{censusLent, CensusPutLeaves}
 use Rattle.maps.specs.Partner.{importLent, ImportLeaves, exportLent, Exports}
 use Rattle.taking.specs.Answers.{Outcome}
 use Rattle.writing.specs.Answers.{Outcome as Writing}
-use Rattle.shrinking.specs.Answers.{Outcome as Shrinking}
-use Rattle.rebasing.specs.Answers.{Outcome as Rebasing}
+use Rattle.decimation.specs.Answers.{Outcome as Shrinking}
+use Rattle.starting_again.specs.Answers.{Outcome as Rebasing}
 use Rattle.zompelgors.specs.declared.ZgRefusal.{ZgRefusal}
 use Rattle.zompelgors.specs.declared.ZgReading.{ZgReading}
 use Rattle.zompelgors.specs.declared.ZgLink.{ZgLink}

@@ -30,14 +30,14 @@ ghost use Rattle.maps.specs.Rebase.{rebaseRows, rebaseLambda, rebaseDelta, reba
 ghost use Rattle.answers.specs.Numbers.{refusalOf, verdictOf};
 ghost use Rattle.answers.specs.Pyramid.{given};
 ghost use Rattle.checking.specs.Answers.{addedOf, heightOf};
-ghost use Rattle.levelwise.specs.Answers.{valueOf};
+ghost use Rattle.by_levels.specs.Answers.{valueOf};
 ghost use Rattle.reading.specs.Answers.{valueOf as linkOf, standsSince, checkOf, totalOf, latestOf};
 ghost use Rattle.rows.specs.Answers.{verdictOfSurvivors, countOfSurvivors};
 ghost use Rattle.taking.specs.Answers.{takenOf, taken};
 ghost use Rattle.writing.specs.Answers.{writtenOf, writing};
-ghost use Rattle.shrinking.specs.Answers.{factorOf, decimating};
+ghost use Rattle.decimation.specs.Answers.{factorOf, decimating};
 ghost use Rattle.joining.specs.Answers.{joinedOf, heightOf as lowerOf};
-ghost use Rattle.rebasing.specs.Answers.{rebasedOf, rebasing};
+ghost use Rattle.starting_again.specs.Answers.{rebasedOf, rebasing};
 ghost use Rattle.zompelgors.specs.Flat.{refusalFor, saidBy, readingFor, linkFor, countFor, unfoldingFor, heightFor, partFor, recordFor, writtenFor, factorFor, baseFor, addFor, joinFor, readFor, unfoldFor, CensusFor, ImportFor, ExportFor, versionFor};
 
 // The document's number and values; all 0 where accepted.
@@ -165,11 +165,11 @@ fn checked_as(check: Check) -> ZgRefusal
 }
 
 // The answer of a reading by levels.
-fn read_as(answer: levelwise::Answered) -> ZgReading
+fn read_as(answer: by_levels::Answered) -> ZgReading
     ensures { λ r. ⌜ r ≡ readingFor (valueOf answer) ⌝ }
 {
     match answer {
-        levelwise::Answered::Found(found) => {
+        by_levels::Answered::Found(found) => {
             let refusal = accepts();
             ZgReading {
                 refusal,
@@ -177,7 +177,7 @@ fn read_as(answer: levelwise::Answered) -> ZgReading
                 neighbour: found.dart,
             }
         },
-        levelwise::Answered::Refused(why) => {
+        by_levels::Answered::Refused(why) => {
             let refusal = refused(why);
             ZgReading {
                 refusal,
@@ -382,11 +382,11 @@ fn written_as(answer: writing::Written) -> ZgWritten
 }
 
 // The answer of a decimation.
-fn factor_as(answer: shrinking::Factor) -> ZgFactor
+fn factor_as(answer: decimation::Factor) -> ZgFactor
     ensures { λ r. ⌜ r ≡ factorFor (factorOf answer) ⌝ }
 {
     match answer {
-        shrinking::Factor::By(factor) => {
+        decimation::Factor::By(factor) => {
             let refusal = accepts();
             ZgFactor {
                 refusal,
@@ -394,7 +394,7 @@ fn factor_as(answer: shrinking::Factor) -> ZgFactor
                 factor,
             }
         },
-        shrinking::Factor::Empty => {
+        decimation::Factor::Empty => {
             let refusal = accepts();
             ZgFactor {
                 refusal,
@@ -402,7 +402,7 @@ fn factor_as(answer: shrinking::Factor) -> ZgFactor
                 factor: 0.0,
             }
         },
-        shrinking::Factor::Refused(why) => {
+        decimation::Factor::Refused(why) => {
             let refusal = refused(why);
             ZgFactor {
                 refusal,
@@ -414,11 +414,11 @@ fn factor_as(answer: shrinking::Factor) -> ZgFactor
 }
 
 // The answer of starting again.
-fn based_as(darts: u16, h: Level, answer: rebasing::Rebased) -> ZgBase
+fn based_as(darts: u16, h: Level, answer: starting_again::Rebased) -> ZgBase
     ensures { λ r. ⌜ r ≡ baseFor (rebasedOf darts (h .0) answer) ⌝ }
 {
     match answer {
-        rebasing::Rebased::Base(fewer, height) => {
+        starting_again::Rebased::Base(fewer, height) => {
             let refusal = accepts();
             ZgBase {
                 refusal,
@@ -426,7 +426,7 @@ fn based_as(darts: u16, h: Level, answer: rebasing::Rebased) -> ZgBase
                 h: height.0,
             }
         },
-        rebasing::Rebased::Refused(why) => {
+        starting_again::Rebased::Refused(why) => {
             let refusal = refused(why);
             ZgBase {
                 refusal,
@@ -585,7 +585,7 @@ pub extern "C" fn zg_read_by_levels(
         h: Level(h),
         darts,
     };
-    read_as(levelwise::read_by_levels(
+    read_as(by_levels::read_by_levels(
         sizes,
         rows,
         lambda,
@@ -739,7 +739,7 @@ pub extern "C" fn zg_decimation(
         h: Level(h),
         darts,
     };
-    factor_as(shrinking::decimation(sizes, rows, lambda, delta, table, Level(level)))
+    factor_as(decimation::decimation(sizes, rows, lambda, delta, table, Level(level)))
 }
 
 // A census of an accepted pyramid, into 33 rows of five counts and 33 sums; the table is left as the check leaves it.
@@ -778,7 +778,7 @@ pub extern "C" fn zg_import(m: u16, edges: &[u16], vertices: &[u16], rows: &mut 
     ensures answer { λ r. ⌜ r ≡ refusalFor (importLent m (now (edges .entry)) (now (vertices .entry)) (now (rows .entry))) ⌝ }
     ensures rows_left { λ _. ⌜ ImportFor m (edges .entry) (vertices .entry) (rows .entry) (rows .exit) ⌝ }
 {
-    checked_as(partner::import(m, edges, vertices, rows))
+    checked_as(combinatorial::import(m, edges, vertices, rows))
 }
 
 // Takes a base back to the two rows that yield it.
@@ -792,7 +792,7 @@ pub extern "C" fn zg_export(
 ) -> ZgRefusal
     ensures { λ r. ⌜ ExportFor n darts (rows .entry) (edges .entry) (vertices .entry) r (edges .exit) (vertices .exit) ⌝ }
 {
-    checked_as(partner::export(Dim(n), darts, rows, edges, vertices))
+    checked_as(combinatorial::export(Dim(n), darts, rows, edges, vertices))
 }
 
 // Joins the kernels of a level and the next of an accepted pyramid; Λ and the height fall.
@@ -847,7 +847,7 @@ pub extern "C" fn zg_rebase(
     based_as(
         darts,
         Level(h),
-        rebasing::rebase(
+        starting_again::rebase(
             Dim(n),
             darts,
             Level(h),

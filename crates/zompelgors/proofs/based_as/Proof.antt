@@ -1,7 +1,7 @@
 -- `based_as` meets its contract. Assumes nothing.
 use mathlib.Core.Path.{sym, ap, _∙_}
 use Prim.Native.Nat.{ℕ}
-use Rattle.rebasing.specs.Answers.{rebasedOf}
+use Rattle.starting_again.specs.Answers.{rebasedOf}
 use Rattle.zompelgors.specs.Flat.{baseFor}
 use Rattle.zompelgors.specs.declared.ZgRefusal.{ZgRefusal}
 use Rattle.zompelgors.specs.declared.ZgBase.{ZgBase}

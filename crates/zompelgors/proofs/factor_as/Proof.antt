@@ -3,7 +3,7 @@ use mathlib.Core.Path.{sym, ap, _∙_}
 use Prim.Native.Nat.{ℕ}
 use lib.Ieee.{Float, ofInt, round, ofBits}
 use Rattle.maps.specs.Decimation.{double}
-use Rattle.shrinking.specs.Answers.{factorOf}
+use Rattle.decimation.specs.Answers.{factorOf}
 use Rattle.zompelgors.specs.Flat.{factorFor}
 use Rattle.zompelgors.specs.declared.ZgRefusal.{ZgRefusal}
 use Rattle.zompelgors.specs.declared.ZgFactor.{ZgFactor}

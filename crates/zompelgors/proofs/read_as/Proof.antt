@@ -2,7 +2,7 @@
 use mathlib.Core.Path.{sym, ap, _∙_}
 use Prim.Native.Nat.{ℕ}
 use Rattle.maps.specs.Read.{none, unless}
-use Rattle.levelwise.specs.Answers.{valueOf}
+use Rattle.by_levels.specs.Answers.{valueOf}
 use Rattle.zompelgors.specs.Flat.{readingFor}
 use Rattle.zompelgors.specs.declared.ZgRefusal.{ZgRefusal}
 use Rattle.zompelgors.specs.declared.ZgReading.{ZgReading}

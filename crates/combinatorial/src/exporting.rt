@@ -1,0 +1,94 @@
+// Take a base back to a partner's two rows, where two rows yield it. Assumes nothing.
+use answers::Check;
+use answers::Dim;
+use answers::Level;
+use answers::Refusal;
+use answers::Sizes;
+ghost use mathlib.Core.Path.{_≡_};
+ghost use Prim.Native.Nat.{_+_, _/_, _<_};
+ghost use lib.ListN.{length};
+ghost use Rattle.maps.specs.Table.{entry, listed};
+ghost use Rattle.maps.specs.Partner.{exportLent, Exports};
+ghost use Rattle.answers.specs.Numbers.{verdictOf};
+ghost use Rattle.answers.specs.Rows.{Rows};
+ghost use Rattle.combinatorial.specs.Back.{testsBack, Says, alternatesAt, Alternates, edgeOf, vertexOf};
+
+// Numbers 1, 2 and 4, and 5, 6 and 7 as in the base check.
+fn base_refused(n: Dim, darts: u16, rows: &[u16], edges: usize, vertices: usize) -> Check
+    ensures { λ r. ⌜ verdictOf r ≡ testsBack (n .0) darts (now (rows .entry)) edges vertices ⌝ }
+{
+    if n.0 != 2 {
+        return Check::Refused(Refusal::Dimension);
+    }
+    let half = darts / 2;
+    let two = answers::both(
+        answers::row_fits(half, edges),
+        answers::row_fits(half, vertices),
+    );
+    let fit = answers::both(answers::rows_fit(Dim(2), darts, rows.len()), two);
+    let sizes = Sizes {
+        n: Dim(2),
+        h: Level(0),
+        darts,
+    };
+    if let Check::Refused(r) = answers::lent(sizes, fit) {
+        return Check::Refused(r);
+    }
+    bases::check_base(Dim(2), darts, rows)
+}
+
+// Are dart 2d and the next a2-neighbours, the next one's a1-neighbour even and the a0-neighbour of 2d odd?
+fn alternates_at(darts: u16, rows: &[u16], even: u16) -> bool
+    requires { ⌜ Rows 2 darts (now rows) × (even + 1 < darts) ⌝ }
+    ensures { λ r. ⌜ r ≡ alternatesAt (entry darts (now (rows .entry))) even ⌝ }
+{
+    let side = answers::at(darts, rows, Dim(2), even);
+    let turn = answers::at(darts, rows, Dim(1), even + 1);
+    let edge = answers::at(darts, rows, Dim(0), even);
+    (side == even + 1) & (turn % 2 == 0) & (edge % 2 == 1)
+}
+
+// Is it so of all darts, and their number even?
+fn alternates(darts: u16, rows: &[u16]) -> bool
+    requires { ⌜ Rows 2 darts (now rows) ⌝ }
+    ensures { λ r. ⌜ Says r (Alternates darts (entry darts (now (rows .entry)))) ⌝ }
+{
+    if darts % 2 != 0 {
+        return false;
+    }
+    for d in 0..darts / 2 {
+        if !alternates_at(darts, rows, 2 * d) {
+            return false;
+        }
+    }
+    true
+}
+
+// The edge partner of d is half of what a0 takes 2d to, its vertex successor half of what a1 takes 2d+1 to.
+fn take_rows(darts: u16, rows: &[u16], edges: &mut [u16], vertices: &mut [u16])
+    requires { ⌜ Rows 2 darts (now rows) × (length (now edges) ≡ darts / 2) × (length (now vertices) ≡ darts / 2) ⌝ }
+    ensures edges_left { λ _. ⌜ now (edges .exit) ≡ listed (edgeOf (entry darts (now (rows .entry)))) (darts / 2) ⌝ }
+    ensures vertices_left { λ _. ⌜ now (vertices .exit) ≡ listed (vertexOf (entry darts (now (rows .entry)))) (darts / 2) ⌝ }
+{
+    for d in 0..darts / 2 {
+        let place = d as usize;
+        let edge = answers::at(darts, rows, Dim(0), 2 * d);
+        let vertex = answers::at(darts, rows, Dim(1), 2 * d + 1);
+        edges[place] = edge / 2;
+        vertices[place] = vertex / 2;
+    }
+}
+
+// Take a base back. All is tested before an entry is written.
+pub fn export(n: Dim, darts: u16, rows: &[u16], edges: &mut [u16], vertices: &mut [u16]) -> Check
+    ensures { λ r. ⌜ Exports (now (rows .entry)) (now (edges .entry)) (now (vertices .entry)) (exportLent (n .0) darts (now (rows .entry)) (now (edges .entry)) (now (vertices .entry))) (verdictOf r) (now (edges .exit)) (now (vertices .exit)) ⌝ }
+{
+    if let Check::Refused(r) = base_refused(n, darts, rows, edges.len(), vertices.len()) {
+        return Check::Refused(r);
+    }
+    if !alternates(darts, rows) {
+        return Check::Refused(Refusal::NoRows);
+    }
+    take_rows(darts, rows, edges, vertices);
+    Check::Accepted
+}
