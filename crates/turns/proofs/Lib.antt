@@ -1,0 +1,4 @@
+pub mod Counts
+pub mod Strings
+pub mod Queues
+pub mod ByLevels

@@ -1,0 +1,3 @@
+pub mod Strings
+pub mod Queues
+pub mod ByLevels
