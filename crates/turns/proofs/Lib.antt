@@ -1,4 +1,5 @@
 pub mod Counts
 pub mod Strings
+pub mod Climbs
 pub mod Queues
 pub mod ByLevels
