@@ -8,10 +8,15 @@ use borrow.Author.Tests.{ltb-true, ltb-false, eqb-true, eqb-false, eq-eqb, ne-eq
 use Rattle.maps.specs.Count.{one, sum}
 use Rattle.maps.specs.Map.{Involutions}
 use Rattle.maps.specs.Mark.{between}
-use Rattle.maps.specs.Folded.{gone, refusedMarks}
+use Rattle.maps.specs.Folded.{On, gone, removedBelow, refusedMarks, marks, level}
+use Rattle.maps.specs.Pyramid.{Pyramid}
+use Rattle.maps.specs.Cost.{reads}
 use Rattle.maps.specs.Walk.{Walked, ended, stopped}
-use Rattle.maps.specs.ByLevels.{readBase, overLevel, readLevel}
+use Rattle.maps.specs.ByLevels.{readBase, overLevel, readLevel, byLevels}
+use Rattle.laws.proofs.Counting.{sum-const}
+use Rattle.facts.proofs.Facts.{facts}
 use Rattle.turns.specs.ByLevels.{Counted, ifStopped, tallyBase, tallyOver, tallyLevel, callsOn, entriesRead, furtherSteps, stopsBegun, stopsPassed}
+use Rattle.turns.proofs.Counts.{sum-at-most}
 
 at-most-one : (x : Bool) → one x ≤ 1
 at-most-one true = omega arith
@@ -33,6 +38,21 @@ record Broken (N l c calls entries further begun passed : ℕ) : Type 0 where
   turned : further ≤ entries
   once : begun ≤ 1
   up : passed ≤ l
+
+-- What a whole question on level l does.
+pub record Does (N l : ℕ) (x : Counted → ℕ) : Type 0 where
+  -- base entries read: 1 + 2N at most
+  pub entries : x entriesRead ≤ 1 + 2 * N
+  -- calls of the base: an entry read for each, but for one that is refused
+  pub base : x (callsOn 0) ≤ x entriesRead + 1
+  -- no more calls on a level than on the one below
+  pub fewer : (k : ℕ) → k < l → x (callsOn (suc k)) ≤ x (callsOn k)
+  -- second steps and further turns of all walks
+  pub further : x furtherSteps ≤ x entriesRead
+  -- a stop begins once
+  pub begun : x stopsBegun ≤ 1
+  -- and is passed up once through each level
+  pub passed : x stopsPassed ≤ l
 
 module _ (a : Involutions) (n N h : ℕ) (Λ Δ : ℕ → ℕ) (i b : ℕ) where
   -- what is told of a reading by how it ended: calls of the base, entries, further steps, stops begun and stops passed up
@@ -191,20 +211,38 @@ module _ (a : Involutions) (n N h : ℕ) (Λ Δ : ℕ → ℕ) (i b : ℕ) where
           let fewer = over-less l below (suc k) k k (x (suc k)) (λ t d c. x k t d c - x (suc k) t d c) (x k) (λ t d c. omega (arith, ih (omega arith) t d c)) (1 + 2 * N) t d c in
           rw (ne-eqb (suc l) (suc k) (λ (z : suc l ≡ suc k). omega arith)) (omega (arith, fewer))
 
-  -- What a whole question does, on any tables.
-  pub record Does (l : ℕ) (x : Counted → ℕ) : Type 0 where
-    -- base entries read: 1 + 2N at most
-    pub entries : x entriesRead ≤ 1 + 2 * N
-    -- calls of the base: an entry read for each, but for one that is refused
-    pub base : x (callsOn 0) ≤ x entriesRead + 1
-    -- no more calls on a level than on the one below, and none above the level asked
-    pub fewer : (k : ℕ) → k < l → x (callsOn (suc k)) ≤ x (callsOn k)
-    -- second steps and further turns of all walks
-    pub further : x furtherSteps ≤ x entriesRead
-    -- a stop begins once, and is passed up once through each level
-    pub begun : x stopsBegun ≤ 1
-    pub passed : x stopsPassed ≤ l
-
-  does : (l : ℕ) (w : Walked) (x : Counted → ℕ) → Told l 0 w (x (callsOn 0)) (x entriesRead) (x furtherSteps) (x stopsBegun) (x stopsPassed) → ((k : ℕ) → k < l → x (callsOn (suc k)) ≤ x (callsOn k)) → Does l x
+  does : (l : ℕ) (w : Walked) (x : Counted → ℕ) → Told l 0 w (x (callsOn 0)) (x entriesRead) (x furtherSteps) (x stopsBegun) (x stopsPassed) → ((k : ℕ) → k < l → x (callsOn (suc k)) ≤ x (callsOn k)) → Does N l x
   does l (ended u e c₁) x m f = record { entries = omega arith; base = omega arith; fewer = f; further = omega arith; begun = omega arith; passed = omega arith }
   does l (stopped k r d) x m f = record { entries = omega arith; base = omega arith; fewer = f; further = omega arith; begun = omega arith; passed = omega arith }
+
+  -- of every question, on any tables
+  pub levels-work : (l : ℕ) → Does N l (tally l i b 0)
+  levels-work l = does l (readLevel a n N h Λ Δ i b l i b 0) (tally l i b 0) (level-told l i b 0) (λ k f. level-calls l k f i b 0)
+
+  -- where a neighbour is found, the count that is answered is the entries read, and as many calls are of the base
+  pub found-work : (l u e c : ℕ) → byLevels a n N h Λ Δ i b l ≡ ended u e c → (tally l i b 0 entriesRead ≡ c) × (tally l i b 0 (callsOn 0) ≡ c)
+  unfolding byLevels
+  found-work l u e c q = go (readLevel a n N h Λ Δ i b l i b 0) q (level-told l i b 0)
+    where
+      go : (w : Walked) → w ≡ ended u e c → Told l 0 w (tally l i b 0 (callsOn 0)) (tally l i b 0 entriesRead) (tally l i b 0 furtherSteps) (tally l i b 0 stopsBegun) (tally l i b 0 stopsPassed) → (tally l i b 0 entriesRead ≡ c) × (tally l i b 0 (callsOn 0) ≡ c)
+      go (ended u₁ e₁ c₁) p m = let z : c₁ ≡ c = cc in (omega arith, omega arith)
+      go (stopped k r d) p m = let z : _≡_ {A = ℕ} 0 1 = cc in absurd (omega arith)
+
+module _ {N l : ℕ} {x : Counted → ℕ} (d : Does N l x) where
+  -- no level has more calls than level 0
+  most-calls : (k : ℕ) → k ≤ l → x (callsOn k) ≤ x (callsOn 0)
+  most-calls zero f = omega arith
+  most-calls (suc k) f = omega (arith, most-calls k (omega arith), d .fewer k f)
+
+  -- so above level 0 there are at most l for each call of the base
+  pub calls-above : sum (λ k. x (callsOn (suc k))) l ≤ l * (x entriesRead + 1)
+  calls-above =
+      omega (arith, sum-at-most (λ k. x (callsOn (suc k))) (λ k. x entriesRead + 1) l (λ k f. omega (arith, most-calls (suc k) f, d .base)), sum-const (x entriesRead + 1) l)
+
+-- in an accepted pyramid all of this is of the direct walk's count: 1 + 2·(darts gone below the level) at most
+pub accepted-work : (a : Involutions) (n N h : ℕ) (Λ Δ : ℕ → ℕ) → Pyramid a n N h Λ Δ → (l : ℕ) → l ≤ h → (i b : ℕ) → i ≤ n → On N Λ l b
+    → let x : Counted → ℕ = λ w. tallyLevel a n N h Λ Δ i b w l i b 0 in (x entriesRead ≡ reads a n N h Λ Δ l i b) × (x (callsOn 0) ≡ reads a n N h Λ Δ l i b) × (x entriesRead ≤ 1 + 2 * removedBelow N Λ l)
+accepted-work a n N h Λ Δ y l k i b li o =
+    let f = facts a n N h Λ Δ y l k in
+    let w = found-work a n N h Λ Δ i b l i (level a n N (marks h Λ Δ) l i b) (reads a n N h Λ Δ l i b) (f .alike i b li o ∙ f .ends i b li o) in
+    (w .0, w .1, omega (arith, w .0, f .few i b li o .1))
