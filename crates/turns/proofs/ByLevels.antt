@@ -108,6 +108,34 @@ module _ (a : Involutions) (n N h : ℕ) (Λ Δ : ℕ → ℕ) (i b : ℕ) where
     over-told zero t d c = omega arith
     over-told (suc times) t d c = round times t d c (over-told times t)
 
+  -- A walk over level l reads two entries a turn, so that it never takes as many turns as the definition gives it: with more it does the same.
+  module _ (l : ℕ) (below : ℕ → ℕ → ℕ → Walked) (met : (t d c u e c₁ : ℕ) → below t d c ≡ ended u e c₁ → (c < c₁) × (c₁ ≤ 1 + 2 * N)) (w : Counted) (z : ℕ → ℕ → ℕ → ℕ) where
+    abbrev whole : ℕ → ℕ → ℕ → ℕ → ℕ
+    whole = tallyOver a n N h Λ Δ i b w below z l
+
+    same : (x y t d c : ℕ) → 1 + 2 * N < 2 * x + c → 1 + 2 * N < 2 * y + c → c ≤ 1 + 2 * N → whole x t d c ≡ whole y t d c
+    unfolding tallyOver
+    same zero y t d c p q k = absurd (omega arith)
+    same (suc x) zero t d c p q k = absurd (omega arith)
+    same (suc x) (suc y) t d c p q k = first (below t d c) refl (λ d₂ c₂ more few. same x y t d₂ c₂ (omega arith) (omega arith) few)
+      where
+        first : (r : Walked) → below t d c ≡ r → ((d₂ c₂ : ℕ) → c + 2 ≤ c₂ → c₂ ≤ 1 + 2 * N → whole x t d₂ c₂ ≡ whole y t d₂ c₂) → whole (suc x) t d c ≡ whole (suc y) t d c
+        first (stopped m r e) f rest = rw (f, tallyOver)
+        first (ended u e c₁) f rest = second (gone Λ (suc l) e) refl (eqb (Λ e) l && eqb (between (Δ e) .0) t) refl (below (between (Δ e) .1) e c₁) refl
+          where
+            second : (v : Bool) → gone Λ (suc l) e ≡ v → (o : Bool) → (eqb (Λ e) l && eqb (between (Δ e) .0) t) ≡ o → (r : Walked) → below (between (Δ e) .1) e c₁ ≡ r → whole (suc x) t d c ≡ whole (suc y) t d c
+            second false g o j r s = rw (f, g, tallyOver)
+            second true g false j r s = rw (f, g, j, tallyOver)
+            second true g true j (stopped m r d₂) s = rw (f, g, j, s, tallyOver)
+            second true g true j (ended u₂ e₂ c₂) s = last (eqb (Λ e₂) l && eqb (Δ e₂) (Δ e)) refl
+              where
+                last : (m : Bool) → (eqb (Λ e₂) l && eqb (Δ e₂) (Δ e)) ≡ m → whole (suc x) t d c ≡ whole (suc y) t d c
+                last false m = rw (f, g, j, s, m, tallyOver)
+                last true m =
+                    let one = met t d c u e c₁ f in
+                    let two = met (between (Δ e) .1) e c₁ u₂ e₂ c₂ s in
+                    rw (f, g, j, s, m, tallyOver, rest e₂ c₂ (omega (arith, one .0, two .0)) (two .1))
+
   -- a level more: `walk` is called by a call of `reading` above level 0
   one-more : (l c : ℕ) (w : Walked) (C E F B P : ℕ) → Told (suc l) c w C E F B P → Told (suc l) c w (one (eqb (suc l) 0) + C) (0 + E) (0 + F) (0 + B) (0 + P)
   one-more l c (ended u e c₁) C E F B P m = rw (ne-eqb (suc l) 0 (λ (z : suc l ≡ 0). omega arith)) (omega arith)
@@ -125,6 +153,18 @@ module _ (a : Involutions) (n N h : ℕ) (Λ Δ : ℕ → ℕ) (i b : ℕ) where
       let y : Counted → ℕ = λ w. tallyOver a n N h Λ Δ i b w below (x w) l (1 + 2 * N) t d c in
       one-more l c (overLevel a n N h Λ Δ i b below l (1 + 2 * N) t d c) (y (callsOn 0)) (y entriesRead) (y furtherSteps) (y stopsBegun) (y stopsPassed)
       (over-told l below (x (callsOn 0)) (x entriesRead) (x furtherSteps) (x stopsBegun) (x stopsPassed) (level-told l) (1 + 2 * N) t d c)
+
+  level-met : (l t d c u e c₁ : ℕ) → readLevel a n N h Λ Δ i b l t d c ≡ ended u e c₁ → (c < c₁) × (c₁ ≤ 1 + 2 * N)
+  level-met l t d c u e c₁ q = go (readLevel a n N h Λ Δ i b l t d c) q (level-told l t d c)
+    where
+      go : (w : Walked) → w ≡ ended u e c₁ → Told l c w (tally l t d c (callsOn 0)) (tally l t d c entriesRead) (tally l t d c furtherSteps) (tally l t d c stopsBegun) (tally l t d c stopsPassed) → (c < c₁) × (c₁ ≤ 1 + 2 * N)
+      go (ended u₁ e₁ c₂) p m = let z : c₂ ≡ c₁ = cc in (omega arith, omega arith)
+      go (stopped k r d) p m = let z : _≡_ {A = ℕ} 0 1 = cc in absurd (omega arith)
+
+  -- the code's walk has no limit of turns, and does what is counted here
+  pub walk-unlimited : (w : Counted) (l times t d c : ℕ) → 1 + 2 * N ≤ times → c ≤ 1 + 2 * N
+      → tallyOver a n N h Λ Δ i b w (readLevel a n N h Λ Δ i b l) (tallyLevel a n N h Λ Δ i b w l) l times t d c ≡ tallyOver a n N h Λ Δ i b w (readLevel a n N h Λ Δ i b l) (tallyLevel a n N h Λ Δ i b w l) l (1 + 2 * N) t d c
+  walk-unlimited w l times t d c k f = same l (readLevel a n N h Λ Δ i b l) (level-met l) w (tallyLevel a n N h Λ Δ i b w l) times (1 + 2 * N) t d c (omega arith) (omega arith) f
 
   -- calls on single levels: a reading below makes so many calls of one kind and so many of another, and of a third no fewer than of both
   module _ (l : ℕ) (below : ℕ → ℕ → ℕ → Walked) (u v w : ℕ) (x y z : ℕ → ℕ → ℕ → ℕ) (less : (t d c : ℕ) → x t d c + y t d c ≤ z t d c) where
