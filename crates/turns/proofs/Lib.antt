@@ -1,5 +1,6 @@
 pub mod Counts
 pub mod Strings
 pub mod Climbs
+pub mod Entries
 pub mod Queues
 pub mod ByLevels
