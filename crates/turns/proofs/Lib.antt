@@ -3,4 +3,5 @@ pub mod Strings
 pub mod Climbs
 pub mod Entries
 pub mod Queues
+pub mod Searching
 pub mod ByLevels

@@ -1,3 +1,4 @@
 pub mod Strings
 pub mod Queues
+pub mod Searches
 pub mod ByLevels
