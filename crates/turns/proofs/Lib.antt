@@ -4,4 +4,5 @@ pub mod Climbs
 pub mod Entries
 pub mod Queues
 pub mod Searching
+pub mod Searches
 pub mod ByLevels
