@@ -10,17 +10,23 @@ use lib.ListN.{length, getD, length-replicate}
 use lib.Dec.{eqb, ltb}
 use Rattle.maps.specs.Count.{one, count, sum}
 use Rattle.maps.specs.Map.{Involutions}
-use Rattle.maps.specs.Table.{entry}
+use Rattle.maps.specs.Table.{entry, each}
+use Rattle.maps.specs.Folded.{survives, survivors, marks, level, levelTable, ofParts}
+use Rattle.maps.specs.Accepted.{Accepted}
 use Rattle.maps.specs.Explicit.{present}
-use Rattle.laws.proofs.Counting.{count-le}
+use Rattle.laws.proofs.Counting.{count-le, count-same, count-minus, sum-const}
 use Rattle.laws.proofs.Verdicts.{and-both}
+use Rattle.facts.proofs.Stored.{stored-present}
 use Rattle.orbits.specs.Search.{State, has, Room}
 use Rattle.orbits.specs.Explicit.{ExplicitLevel, but}
 use Rattle.orbits.proofs.Sets.{none-has}
 use Rattle.orbits.proofs.Explicit.{level-valid}
+use Rattle.orbits.specs.Choices.{chosen}
+use Rattle.regions.specs.Searches.{Leads as Asked}
 use Rattle.cells.specs.Marked.{failing, undivided}
-use Rattle.turns.specs.Searches.{none, Work, begun, anew, searched, searchReads, eachDart, inFirst, inSecond, nameStep, countStep, spoilStep, divideStep, pieceStep, spareStep, spoiled, divided, spared}
-use Rattle.turns.proofs.Counts.{count-within}
+use Rattle.counting.proofs.Levels.{survivors-valid, table-explicit}
+use Rattle.turns.specs.Searches.{none, Work, begun, anew, searched, searchReads, eachDart, inFirst, inSecond, nameStep, countStep, countedCells, namedOrbits, spoilStep, divideStep, pieceStep, spareStep, spoiled, divided, spared}
+use Rattle.turns.proofs.Counts.{count-within, sum-at-most}
 use Rattle.turns.proofs.Searching.{Leads, Adding, search-adds, search-reads}
 
 -- what every step keeps, a loop over all darts keeps
@@ -208,12 +214,104 @@ module _ (n N : ℕ) (table : List ℕ) (level : ExplicitLevel n N table) (cell 
       let e : D .seconds ≤ N = omega (arith, fine-seconds N P (suc n) (0 + S .seconds) D d, count-le P N) in
       record { cells = f; parts = e; pieces = g; entries = omega (arith, q .reads, mul-le-mul-left {m = before + W .firsts + W .seconds} {n = 3 * N} (suc n) (omega (arith, s .1))) }
 
-  -- what a count of the cells of one dimension queues: no more darts than are present
-  count-held : (r : ℕ) → ((d : ℕ) → d < N → count (λ j. cell j d) (suc n) ≤ r) → (w : Work) (d : ℕ) → d < N → Fine N (present N table) r 0 w → Fine N (present N table) r 0 (countStep n N table cell part every w d)
+-- one search more over the first set leaves the second alone
+first-quiet : (a : Involutions) (n N : ℕ) (uses : ℕ → ℕ → Bool) (w : Work) (d : ℕ) → inFirst a n N uses w d .seconds ≡ w .seconds
+unfolding inFirst
+first-quiet a n N uses w d = refl
+
+-- the cells of one dimension of an explicit level counted, where no dart has more than r rows used
+module _ (n N : ℕ) (table : List ℕ) (level : ExplicitLevel n N table) (cell : ℕ → ℕ → Bool) (r : ℕ) (most : (d : ℕ) → d < N → count (λ j. cell j d) (suc n) ≤ r) where
+  abbrev Kept : Work → Type 0
+  Kept w = Fine N (present N table) r 0 w × (w .seconds ≡ 0)
+
+  count-kept : (w : Work) (d : ℕ) → d < N → Kept w → Kept (countStep n N table cell w d)
   unfolding countStep
-  count-held r most w d ld g = go (present N table d) refl (not (has (w .first) d))
+  count-kept w d ld g = go (present N table d) refl (not (has (w .first) d))
     where
-      go : (x : Bool) → present N table d ≡ x → (y : Bool) → Fine N (present N table) r 0 (cond (x && y) (inFirst (entry N table) n N cell w d) w)
-      go true q true = fine-first N (present N table) r 0 (entry N table) n cell (level .rows .darts) (level-leads cell) most w d ld q g
+      go : (x : Bool) → present N table d ≡ x → (y : Bool) → Kept (cond (x && y) (inFirst (entry N table) n N cell w d) w)
+      go true q true = (
+        fine-first N (present N table) r 0 (entry N table) n cell (level .rows .darts) (λ j e lj le i u. level-valid n N table level .inside j e lj (le, i)) most w d ld q (g .0),
+        first-quiet (entry N table) n N cell w d ∙ g .1,
+      )
       go true q false = g
       go false q y = g
+
+  -- no more darts are queued than are present, and r entries read for each
+  pub count-queues : (queue : List ℕ) → length queue ≡ 4096 → (countedCells n N table cell queue .firsts ≤ count (present N table) N) × (countedCells n N table cell queue .entries ≤ r * count (present N table) N)
+  count-queues queue z =
+      let W = countedCells n N table cell queue in
+      let k = each-keeps Kept (countStep n N table cell) (begun queue) N count-kept (fine-begun N (present N table) r queue z, refl) in
+      let f = fine-firsts N (present N table) r 0 W (k .0) in
+      (f, omega (arith, k .0 .reads, mul-le-mul-left {m = 0 + W .firsts + W .seconds} {n = count (present N table) N} r (omega (arith, k .1))))
+
+all-count : (m : ℕ) → count (λ j. true) m ≡ m
+unfolding count
+all-count zero = refl
+all-count (suc m) = omega (arith, all-count m)
+
+-- every row but one
+but-count : (n i : ℕ) → i ≤ n → count (but i) (suc n) ≡ n
+but-count n i l = omega (arith, count-minus (λ j. true) i (suc n) (omega arith) refl, all-count (suc n))
+
+-- a census of an accepted pyramid: on each level, for each dimension i, by every row but a_i
+module _ (n N h : ℕ) (rows lambda delta table : List ℕ) (p : Accepted (ofParts n N h rows lambda delta) table) (queue : ℕ → ℕ → List ℕ) (z : (l i : ℕ) → length (queue l i) ≡ 4096)
+    (cell : ℕ → ℕ → ℕ → Bool) (is : (i j d : ℕ) → i ≤ n → j ≤ n → d < N → cell i j d ≡ but i j) where
+  abbrev T : ℕ → List ℕ
+  T l = levelTable (entry N rows) n N h (each lambda) (each delta) l
+
+  -- the darts that the searches of level l queue, and the entries that they read
+  abbrev queuedOn : ℕ → ℕ
+  queuedOn l = sum (λ i. countedCells n N (T l) (cell i) (queue l i) .firsts) (suc n)
+
+  abbrev readOn : ℕ → ℕ
+  readOn l = sum (λ i. countedCells n N (T l) (cell i) (queue l i) .entries) (suc n)
+
+  present-count : (l : ℕ) → l ≤ h → count (present N (T l)) N ≡ survivors N (each lambda) l
+  present-count l k =
+      let L = level (entry N rows) n N (marks h (each lambda) (each delta)) l in
+      count-same (present N (T l)) (survives (each lambda) l) N (stored-present L n N (survives (each lambda) l) (omega (arith, p .darts .1)) (survivors-valid (entry N rows) n N h (each lambda) (each delta) (p .pyramid) l k))
+
+  -- one dimension
+  dimension-work : (l i : ℕ) → l ≤ h → i ≤ n → (countedCells n N (T l) (cell i) (queue l i) .firsts ≤ survivors N (each lambda) l) × (countedCells n N (T l) (cell i) (queue l i) .entries ≤ n * survivors N (each lambda) l)
+  dimension-work l i k li =
+      rw (present-count l k) at (count-queues n N (T l) (table-explicit n N h rows lambda delta table p l k) (cell i) n
+      (λ d ld. omega (arith, but-count n i li, count-same (λ j. cell i j d) (but i) (suc n) (λ j lj. is i j d li (omega arith) ld))) (queue l i) (z l i))
+
+  pub census-level : (l : ℕ) → l ≤ h → (queuedOn l ≤ suc n * survivors N (each lambda) l) × (readOn l ≤ suc n * (n * survivors N (each lambda) l))
+  census-level l k =
+      let S = survivors N (each lambda) l in
+      let W : ℕ → Work = λ i. countedCells n N (T l) (cell i) (queue l i) in (
+        omega (arith, sum-at-most (λ i. W i .firsts) (λ i. S) (suc n) (λ i li. dimension-work l i k (omega arith) .0), sum-const S (suc n)),
+        omega (arith, sum-at-most (λ i. W i .entries) (λ i. n * S) (suc n) (λ i li. dimension-work l i k (omega arith) .1), sum-const (n * S) (suc n)),
+      )
+
+  -- all levels together: (n+1) darts queued, and n(n+1) entries read, for each survivor of each level
+  pub census-queues : (sum queuedOn (suc h) ≤ sum (λ l. suc n * survivors N (each lambda) l) (suc h)) × (sum readOn (suc h) ≤ sum (λ l. suc n * (n * survivors N (each lambda) l)) (suc h))
+  census-queues = (
+    sum-at-most queuedOn (λ l. suc n * survivors N (each lambda) l) (suc h) (λ l k. census-level l (omega arith) .0),
+    sum-at-most readOn (λ l. suc n * (n * survivors N (each lambda) l)) (suc h) (λ l k. census-level l (omega arith) .1),
+  )
+
+-- region names: the orbits of all darts of the base, by the rows of their choices, which lead to darts
+module _ (n N : ℕ) (table choices : List ℕ) (asked : Asked n N table choices) where
+  name-fine : (w : Work) (d : ℕ) → d < N → Fine N (λ x. true) (suc n) 0 w × (w .seconds ≡ 0) → Fine N (λ x. true) (suc n) 0 (nameStep (entry N table) n N (chosen choices) w d) × (nameStep (entry N table) n N (chosen choices) w d .seconds ≡ 0)
+  unfolding nameStep
+  name-fine w d ld g = go (has (w .first) d)
+    where
+      next : Work
+      next = inFirst (entry N table) n N (chosen choices) w d
+
+      go : (x : Bool) → Fine N (λ x. true) (suc n) 0 (cond (not x) next w) × (cond (not x) next w .seconds ≡ 0)
+      go true = g
+      go false = (
+        fine-first N (λ x. true) (suc n) 0 (entry N table) n (chosen choices) (asked .rows .darts) (λ j e lj le i u. (asked .two-way .inside j e lj le u, refl)) (λ e le. count-le (λ j. chosen choices j e) (suc n)) w d ld refl (g .0),
+        first-quiet (entry N table) n N (chosen choices) w d ∙ g .1,
+      )
+
+  -- each dart is queued once, and so named once
+  pub regions-queues : (queue : List ℕ) → length queue ≡ 4096 → (namedOrbits (entry N table) n N (chosen choices) queue .firsts ≤ N) × (namedOrbits (entry N table) n N (chosen choices) queue .entries ≤ suc n * N)
+  regions-queues queue z =
+      let W = namedOrbits (entry N table) n N (chosen choices) queue in
+      let k = each-keeps (λ w. Fine N (λ x. true) (suc n) 0 w × (w .seconds ≡ 0)) (nameStep (entry N table) n N (chosen choices)) (begun queue) N name-fine (fine-begun N (λ x. true) (suc n) queue z, refl) in
+      let f : W .firsts ≤ N = omega (arith, fine-firsts N (λ x. true) (suc n) 0 W (k .0), count-le (λ x. true) N) in
+      (f, omega (arith, k .0 .reads, mul-le-mul-left {m = 0 + W .firsts + W .seconds} {n = N} (suc n) (omega (arith, k .1))))

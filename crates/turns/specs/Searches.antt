@@ -61,12 +61,20 @@ module _ (a : Involutions) (n N : ℕ) where
   unfoldable pub nameStep : (ℕ → ℕ → Bool) → Work → ℕ → Work
   nameStep uses w d = cond (not (has (w .first) d)) (inFirst uses w d) w
 
+-- `count_cells`, at one dart of an explicit level, by the rows of a cell
+unfoldable pub countStep : ℕ → ℕ → List ℕ → (ℕ → ℕ → Bool) → Work → ℕ → Work
+countStep n N table cell w d = cond (present N table d && not (has (w .first) d)) (inFirst (entry N table) n N cell w d) w
+
+-- and at all of them
+abbrev pub countedCells : ℕ → ℕ → List ℕ → (ℕ → ℕ → Bool) → List ℕ → Work
+countedCells n N table cell queue = eachDart (countStep n N table cell) (begun queue) N
+
+-- the orbits named, of all darts of the base, by the rows of each dart's choice; `give` takes the queue of each search once more
+abbrev pub namedOrbits : Involutions → ℕ → ℕ → (ℕ → ℕ → Bool) → List ℕ → Work
+namedOrbits a n N uses queue = eachDart (nameStep a n N uses) (begun queue) N
+
 -- an explicit level, and the rows of a cell, of a part of it, and all
 module _ (n N : ℕ) (table : List ℕ) (cell part every : ℕ → ℕ → Bool) where
-  -- `count_cells`, at one dart
-  unfoldable pub countStep : Work → ℕ → Work
-  countStep w d = cond (present N table d && not (has (w .first) d)) (inFirst (entry N table) n N cell w d) w
-
   -- `spoil`, `divide`, `break_pieces` and `spare` for dimension δ, each at one dart
   unfoldable pub spoilStep : ℕ → Work → ℕ → Work
   spoilStep δ w d = cond (not (has (w .first) d)) (cond (failing n N table δ d) (inFirst (entry N table) n N cell w d) w) w
