@@ -5,4 +5,5 @@ pub mod Entries
 pub mod Queues
 pub mod Searching
 pub mod Searches
+pub mod Walks
 pub mod ByLevels
