@@ -16,6 +16,7 @@ use Rattle.maps.specs.Folded.{Folded, lambdaOf, deltaOf, removedBelow}
 use Rattle.maps.specs.Explicit.{present, There}
 use Rattle.maps.specs.CheckPyramid.{tableAt}
 use Rattle.laws.proofs.Counting.{count-same, sum-count}
+use Rattle.laws.proofs.Verdicts.{scan-accepted, scan-all}
 use Rattle.facts.proofs.Checks.{kernel-sound}
 use Rattle.facts.proofs.Turns.{removed-suc}
 use Rattle.kernels.specs.Strings.{kernelRow, Linked}
@@ -125,6 +126,19 @@ module _ (f : Folded) (b : Base f) where
   climb-reads zero k = omega arith
   climb-reads (suc l) k =
       rw (removed-suc (lambdaOf f) l (f .N), mul-add (f .n + 8) (removedBelow (f .N) (lambdaOf f) l) (count (λ d. eqb (lambdaOf f d) l) (f .N))) (omega (arith, climb-reads l (omega arith), step-reads l k))
+
+  -- the removals alone, of kernels that are accepted, as a new base climbs
+  pub relinks-reads : (l : ℕ) → l ≤ f .h → climbsTo f l ≡ accepted → sum (λ k. relinkReads (f .n) (f .N) (row k) (tableAt f k)) l ≤ 4 * removedBelow (f .N) (lambdaOf f) l
+  unfolding sum
+  relinks-reads l m e = go l (omega arith)
+    where
+      go : (k : ℕ) → k ≤ l → sum (λ j. relinkReads (f .n) (f .N) (row j) (tableAt f j)) k ≤ 4 * removedBelow (f .N) (lambdaOf f) k
+      go zero g = omega arith
+      go (suc k) g =
+          let below : climbsTo f k ≡ accepted = scan-all k (kernelOf f) (λ x y. scan-accepted l (kernelOf f) e x (omega arith)) in
+          let u : k < f .h = omega arith in
+          let here = relink-reads (ready k u below (scan-accepted l (kernelOf f) e k g)) in
+          omega (arith, go k (omega arith), here, size k u below, removed-suc (lambdaOf f) k (f .N))
 
 -- A check, also as taking, writing and shrinking begin with it: it climbs where 1 to 8 have passed.
 unfoldable pub checkReads : Folded → List ℕ → ℕ

@@ -7,3 +7,4 @@ pub mod Searching
 pub mod Searches
 pub mod Walks
 pub mod ByLevels
+pub mod Jobs

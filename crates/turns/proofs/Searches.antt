@@ -256,14 +256,14 @@ but-count n i l = omega (arith, count-minus (λ j. true) i (suc n) (omega arith)
 -- a census of an accepted pyramid: on each level, for each dimension i, by every row but a_i
 module _ (n N h : ℕ) (rows lambda delta table : List ℕ) (p : Accepted (ofParts n N h rows lambda delta) table) (queue : ℕ → ℕ → List ℕ) (z : (l i : ℕ) → length (queue l i) ≡ 4096)
     (cell : ℕ → ℕ → ℕ → Bool) (is : (i j d : ℕ) → i ≤ n → j ≤ n → d < N → cell i j d ≡ but i j) where
-  abbrev T : ℕ → List ℕ
+  abbrev pub T : ℕ → List ℕ
   T l = levelTable (entry N rows) n N h (each lambda) (each delta) l
 
   -- the darts that the searches of level l queue, and the entries that they read
-  abbrev queuedOn : ℕ → ℕ
+  abbrev pub queuedOn : ℕ → ℕ
   queuedOn l = sum (λ i. countedCells n N (T l) (cell i) (queue l i) .firsts) (suc n)
 
-  abbrev readOn : ℕ → ℕ
+  abbrev pub readOn : ℕ → ℕ
   readOn l = sum (λ i. countedCells n N (T l) (cell i) (queue l i) .entries) (suc n)
 
   present-count : (l : ℕ) → l ≤ h → count (present N (T l)) N ≡ survivors N (each lambda) l
