@@ -3,7 +3,7 @@ use mathlib.Core.Path.{_≡_, refl, sym, ap, _∙_}
 use mathlib.Core.Bool.{Bool, true, false, cond}
 use mathlib.Core.List.{List}
 use Prim.Native.Nat.{ℕ, zero, suc, _+_, _-_, _*_, _≤_, _<_}
-use native.Mathlib.Nat.{mul-le-mul-left}
+use native.Mathlib.Nat.{mul-add}
 use native.Mathlib.Omega.{arith}
 use lib.Dec.{eqb, ltb}
 use borrow.Author.Tests.{ltb-true, ltb-false, lt-ltb, eqb-true}
@@ -32,9 +32,13 @@ module _ {N : ℕ} {Λ : ℕ → ℕ} {head next : List ℕ} (s : Linked N Λ 0 
       omega (arith, climb-turns cut times m (λ k l. rises k (omega arith)) (omega arith), stretch-turns s (times m) (cut m) (cut (suc m)) up low)
 
   -- the same loop in each of n+1 rows, as `clear` clears them
-  pub clear-turns : (n : ℕ) (times : ℕ → ℕ → ℕ) (from to : ℕ) → from ≤ to → to ≤ 256 → sum (λ i. turnsOver N head next (times i) from to) (suc n) ≤ suc n * removedBelow N Λ to
+  pub clear-turns : (n : ℕ) (times : ℕ → ℕ → ℕ) (from to : ℕ) → from ≤ to → to ≤ 256 → suc n * removedBelow N Λ from + sum (λ i. turnsOver N head next (times i) from to) (suc n) ≤ suc n * removedBelow N Λ to
   clear-turns n times from to l k =
-      omega (arith, sum-at-most (λ i. turnsOver N head next (times i) from to) (λ i. removedBelow N Λ to) (suc n) (λ i li. omega (arith, stretch-turns s (times i) from to l k)), sum-const (removedBelow N Λ to) (suc n))
+      let F = removedBelow N Λ from in
+      let D = removedBelow N Λ to - F in
+      let e : F + D ≡ removedBelow N Λ to = omega (arith, removed-rises N Λ from to l) in
+      let each = sum-at-most (λ i. turnsOver N head next (times i) from to) (λ i. D) (suc n) (λ i li. omega (arith, stretch-turns s (times i) from to l k)) in
+      rw (← e, mul-add (suc n) F D) (omega (arith, each, sum-const D (suc n)))
 
   -- Joining kernels l and l+1: the climb to level l and on from it is one climb.
   pub join-turns : (times : ℕ → ℕ → ℕ) (l h : ℕ) → l ≤ h → h ≤ 256 → turnsOver N head next (times 0) 0 l + turnsOver N head next (times 1) l h ≤ removedBelow N Λ h
@@ -45,6 +49,16 @@ module _ {N : ℕ} {Λ : ℕ → ℕ} {head next : List ℕ} (s : Linked N Λ 0 
       → turnsOver N head next (times 0) 0 l + turnsOver N head next (times 1) l h + turnsOver N head₂ next₂ (times 2) 0 l ≤ 2 * removedBelow N Λ h
   join-turns-refused s₂ times l h k low =
       omega (arith, join-turns times l h k low, stretch-turns s₂ (times 2) 0 l (omega arith) (omega arith), removed-rises N Λ l h k)
+
+  -- and the rows that are cleared on them, n+1 for each kernel
+  pub join-clear : (n : ℕ) (times : ℕ → ℕ → ℕ → ℕ) (l h : ℕ) → l ≤ h → h ≤ 256 → sum (λ i. turnsOver N head next (times i 0) 0 l + turnsOver N head next (times i 1) l h) (suc n) ≤ suc n * removedBelow N Λ h
+  join-clear n times l h k low =
+      omega (arith, sum-at-most (λ i. turnsOver N head next (times i 0) 0 l + turnsOver N head next (times i 1) l h) (λ i. removedBelow N Λ h) (suc n) (λ i li. join-turns (times i) l h k low), sum-const (removedBelow N Λ h) (suc n))
+
+  pub join-clear-refused : {head₂ next₂ : List ℕ} → Linked N Λ 0 head₂ next₂ → (n : ℕ) (times : ℕ → ℕ → ℕ → ℕ) (l h : ℕ) → l ≤ h → h ≤ 256
+      → sum (λ i. turnsOver N head next (times i 0) 0 l + turnsOver N head next (times i 1) l h + turnsOver N head₂ next₂ (times i 2) 0 l) (suc n) ≤ suc n * (2 * removedBelow N Λ h)
+  join-clear-refused {head₂} {next₂} s₂ n times l h k low =
+      omega (arith, sum-at-most (λ i. turnsOver N head next (times i 0) 0 l + turnsOver N head next (times i 1) l h + turnsOver N head₂ next₂ (times i 2) 0 l) (λ i. 2 * removedBelow N Λ h) (suc n) (λ i li. join-turns-refused s₂ (times i) l h k low), sum-const (2 * removedBelow N Λ h) (suc n))
 
 -- The string of the joined kernel has the darts of both, which are gone from level h.
 pub joined-turns : {N : ℕ} {Λ′ : ℕ → ℕ} {head next : List ℕ} → Linked N Λ′ 0 head next → (Λ : ℕ → ℕ) (l h : ℕ) → ((d : ℕ) → d < N → Λ′ d ≡ joinΛ l Λ d) → suc l < h → h ≤ 256

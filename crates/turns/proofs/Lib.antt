@@ -8,3 +8,4 @@ pub mod Searches
 pub mod Walks
 pub mod ByLevels
 pub mod Jobs
+pub mod Small

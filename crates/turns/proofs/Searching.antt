@@ -13,6 +13,7 @@ use Rattle.maps.specs.Count.{count, sum}
 use Rattle.maps.specs.Map.{Involutions}
 use Rattle.laws.proofs.Counting.{sum-const}
 use Rattle.orbits.specs.Search.{State, has, state, Room, pushed, spread, turns}
+use Rattle.orbits.specs.Orbits.{Found}
 use Rattle.orbits.proofs.Sets.{set-only, set-count, set-last, room-left}
 use Rattle.turns.specs.Searches.{searched, searchReads}
 use Rattle.turns.proofs.Counts.{sum-at-most}
@@ -78,3 +79,8 @@ module _ (N : ℕ) (within : ℕ → Bool) (old : List Bool) where
     pub search-reads : (r : ℕ) → ((d : ℕ) → d < N → count (λ j. uses j d) (suc n) ≤ r) → (t : State) → Adding t → searchReads n uses t ≤ r * t .tail
     unfolding searchReads
     search-reads r most t g = omega (arith, sum-at-most (λ k. count (λ j. uses j (getD (t .queue) k 0)) (suc n)) (λ k. r) (t .tail) (λ k l. most (getD (t .queue) k 0) (g .inside k l .0)), sum-const r (t .tail), mul-comm r (t .tail))
+
+-- a search that begins with its queue is what the contract of `orbit` says that it leaves
+pub orbit-searched : {n N : ℕ} {a : Involutions} {uses : ℕ → ℕ → Bool} {d : ℕ} {reached : List Bool} {queue : List ℕ} {t : State} → Found n N a uses d (state reached queue 0) t → t ≡ searched a n N uses reached queue d
+unfolding searched
+orbit-searched f = f .is
