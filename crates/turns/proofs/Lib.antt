@@ -1,0 +1,11 @@
+pub mod Counts
+pub mod Strings
+pub mod Climbs
+pub mod Entries
+pub mod Queues
+pub mod Searching
+pub mod Searches
+pub mod Walks
+pub mod ByLevels
+pub mod Jobs
+pub mod Small

@@ -1,0 +1,5 @@
+pub mod Strings
+pub mod Queues
+pub mod Searches
+pub mod Walks
+pub mod ByLevels
