@@ -88,7 +88,20 @@ So check once what comes from outside, and budget by the first two lines.
 READS_BEHIND = """
 docs/figures/plot-reads.svg draws what unfolding each level reads under the bound of accepted pyramids, docs/figures/plot-memory.svg the bytes of a folded pyramid beside those of all its levels.
 Counts in a refusal are 0, though entries were read.
-The other jobs return no count of reads; what they read is in their bound below, by instructions.
+The other jobs return no count of reads; what they read in loops that depend on the data follows.
+"""
+
+ENTRIES_TEXT = """
+## Proved: entries read in loops that depend on the data
+
+Loops over all darts and rows read each entry once, as their source says.
+All others go along the strings of kernels, along walks, or search orbits; crates/turns defines what they read and how often they turn, and adds it up.
+That the loops are those of the definitions is read in the code: no function answers how often it turns.
+"""
+
+ENTRIES_BEHIND = """
+The laws behind them: `strung-turns` and `along-all`, each dart of a kernel once in its string (Strings.antt); `run-queued` and `run-within`, searches over one set of flags queue each dart once (Queues.antt); `orbit-searched`, a search is what the contract of `orbit` leaves (Searching.antt); `walk-unlimited`, the limit of turns in the definition of a reading by levels is never reached (ByLevels.antt).
+The definitions are held by `small-strings`, `small-levels`, `small-walk`, `small-stop`, `small-count` and `small-marking` (Small.antt).
 """
 
 BOUNDS_TEXT = """
@@ -306,10 +319,24 @@ def archives(tool):
     return "\n".join(f"- {Path(f).name}, SHA-256 {hashlib.sha256(Path(f).read_bytes()).hexdigest()}" for f in files)
 
 
+ENTRIES = [
+    ("a check; taking, writing, decimation, a census, starting again and regions begin or end with one", "(n+8)g", "`check-reads` in Entries.antt"),
+    ("zg_read", "1 + 2N; where a neighbour is found, the count answered", "`walk-entries`, `found-entries` in Walks.antt"),
+    ("zg_unfold", "(n+1)N(1 + 2N); of accepted pyramids as above", "`level-entries` in Walks.antt"),
+    ("zg_read_by_levels", "1 + 2N; at most l calls above level 0 for each entry and one more; of accepted pyramids the direct walk's count", "`levels-work`, `calls-above`, `accepted-work` in ByLevels.antt"),
+    ("zg_mark_cells", "3(n+1)N in its searches", "`marking-queues` in Searches.antt"),
+    ("zg_census", "2(n+8)g + n(n+1)s", "`census-reads` in Jobs.antt"),
+    ("zg_join", "(2n+8)g; refused (3n+16)g", "`join-reads`, `join-reads-refused` in Jobs.antt"),
+    ("zg_rebase", "(n+12)g", "`rebase-reads` in Jobs.antt"),
+    ("zg_regions", "(n+8)g + (n+1)N", "`regions-reads` in Jobs.antt"),
+]
+
+
 def proved():
     lent = table(("Function", "Lent", "Bytes", "n = 4, N = 4,096"), lent_rows())
     reads = table(("Call", "Base entries read, at most", "Where it is said", "n = 4, N = 4,096"), read_rows())
-    return OPENING + lent + READS_TEXT + reads + READS_BEHIND
+    entries = table(("Call", "Entries of rows and table, at most", "Theorem, in crates/turns/proofs"), [row(*line) for line in ENTRIES])
+    return OPENING + lent + READS_TEXT + reads + READS_BEHIND + ENTRIES_TEXT + entries + ENTRIES_BEHIND
 
 
 def page(tool, found, stacks, how, tree="unknown"):
@@ -319,12 +346,13 @@ def page(tool, found, stacks, how, tree="unknown"):
     library = table(header, library_rows(tool, found))
     leans = table(("Kind", "Lines", "Who says so"), kind_rows(tool))
     cited = table(("Theorem", "Of which loops"), theorem_rows(tool.table.lines))
-    seen = table(("Source and loop", "At most", "Why"), seen_rows(tool.table.lines))
+    seen = list(seen_rows(tool.table.lines))
+    seen = SEEN_TEXT + table(("Source and loop", "At most", "Why"), seen) if seen else ""
     header = ("Function", "Calls counted", "Refused", "Nearest to its bound", "in", "with", "Dearest", "of the worst")
     search = table(header, search_rows(tool, found))
     stack = table(("Function", "Stack"), stack_rows(stacks))
     return (proved() + BOUNDS_TEXT.format(archives=archives(tool), tree=tree) + bounds + LIBRARY_TEXT + library
-            + LEANS_TEXT.format(lines=len(tool.table.lines)) + leans + THEOREMS_TEXT + cited + SEEN_TEXT + seen
+            + LEANS_TEXT.format(lines=len(tool.table.lines)) + leans + THEOREMS_TEXT + cited + seen
             + SEARCH_TEXT.format(how=how) + search + STACK_TEXT + stack + ASSUMED)
 
 

@@ -140,7 +140,7 @@ module _ (f : Folded) (b : Base f) where
           let here = relink-reads (ready k u below (scan-accepted l (kernelOf f) e k g)) in
           omega (arith, go k (omega arith), here, size k u below, removed-suc (lambdaOf f) k (f .N))
 
--- A check, also as taking, writing and shrinking begin with it: it climbs where 1 to 8 have passed.
+-- A check, also as taking, writing and decimation begin with it: it climbs where 1 to 8 have passed.
 unfoldable pub checkReads : Folded → List ℕ → ℕ
 checkReads f table = ifAccepted (earlyOf f table) (climbReads f (f .h)) 0
 
