@@ -1,5 +1,5 @@
 -- What a reading by levels does, counted, on any tables: calls on each level, entries, steps, and stops. Assumes nothing.
-use mathlib.Core.Path.{_≡_, refl, sym, ap, _∙_}
+use mathlib.Core.Path.{_≡_, refl, sym, _∙_}
 use mathlib.Core.Bool.{Bool, true, false, cond, _&&_}
 use Prim.Native.Nat.{ℕ, zero, suc, _+_, _-_, _*_, _≤_, _<_}
 use native.Mathlib.Omega.{arith}
@@ -36,7 +36,7 @@ record Broken (N l c calls entries further begun passed : ℕ) : Type 0 where
   few : entries ≤ 1 + 2 * N - c
   called : calls ≤ entries + 1
   turned : further ≤ entries
-  once : begun ≤ 1
+  once : begun ≡ 1
   up : passed ≤ l
 
 -- What a whole question on level l does.

@@ -1,13 +1,13 @@
 -- The loops along the strings, over a whole climb: one stretch after the other, as a check, an added level, a census, a join, a new base and region names climb. Assumes nothing.
-use mathlib.Core.Path.{_≡_, refl, sym, ap, _∙_}
+use mathlib.Core.Path.{_≡_, refl, sym, _∙_}
 use mathlib.Core.Bool.{Bool, true, false, cond}
 use mathlib.Core.List.{List}
 use Prim.Native.Nat.{ℕ, zero, suc, _+_, _-_, _*_, _≤_, _<_}
 use native.Mathlib.Nat.{mul-add}
 use native.Mathlib.Omega.{arith}
 use lib.Dec.{eqb, ltb}
-use borrow.Author.Tests.{ltb-true, ltb-false, lt-ltb, eqb-true}
-use Rattle.maps.specs.Count.{count, sum}
+use borrow.Author.Tests.{ltb-true, lt-ltb, eqb-true}
+use Rattle.maps.specs.Count.{sum}
 use Rattle.maps.specs.Table.{each}
 use Rattle.maps.specs.Folded.{gone, removedBelow}
 use Rattle.maps.specs.Join.{joinΛ}

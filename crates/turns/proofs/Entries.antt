@@ -3,7 +3,7 @@ use mathlib.Core.Path.{_≡_, refl, sym, ap, _∙_}
 use mathlib.Core.Bool.{Bool, true, false, cond, not, true≢false}
 use mathlib.Core.List.{List}
 use Prim.Native.Nat.{ℕ, zero, suc, _+_, _-_, _*_, _≤_, _<_}
-use native.Mathlib.Nat.{mul-add, add-mul, mul-le-mul-left}
+use native.Mathlib.Nat.{mul-add, add-mul}
 use native.Mathlib.Omega.{arith}
 use lib.Dec.{eqb, ltb}
 use borrow.Author.Tests.{ltb-false}
@@ -15,7 +15,7 @@ use Rattle.maps.specs.Table.{entry, each}
 use Rattle.maps.specs.Folded.{Folded, lambdaOf, deltaOf, removedBelow}
 use Rattle.maps.specs.Explicit.{present, There}
 use Rattle.maps.specs.CheckPyramid.{tableAt}
-use Rattle.laws.proofs.Counting.{count-same, sum-count}
+use Rattle.laws.proofs.Counting.{count-same}
 use Rattle.laws.proofs.Verdicts.{scan-accepted, scan-all}
 use Rattle.facts.proofs.Checks.{kernel-sound}
 use Rattle.facts.proofs.Turns.{removed-suc}

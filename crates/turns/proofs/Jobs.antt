@@ -1,5 +1,5 @@
 -- What each job reads of rows and table in its loops that depend on the data, added up. g are the darts with Λ below h, s the survivors of all levels. Assumes nothing.
-use mathlib.Core.Path.{_≡_, refl, sym, ap, _∙_}
+use mathlib.Core.Path.{_≡_}
 use mathlib.Core.Bool.{Bool}
 use mathlib.Core.List.{List}
 use Prim.Native.Nat.{ℕ, suc, _+_, _*_, _≤_, _<_}
@@ -21,10 +21,10 @@ use Rattle.climbing.specs.Climb.{Base, climbsTo}
 use Rattle.counting.proofs.Levels.{climb-base}
 use Rattle.regions.specs.Searches.{Leads}
 use Rattle.turns.specs.Strings.{turnsAlong}
-use Rattle.turns.specs.Searches.{countedCells, namedOrbits}
+use Rattle.turns.specs.Searches.{namedOrbits}
 use Rattle.turns.proofs.Climbs.{removed-rises, joined-turns}
 use Rattle.turns.proofs.Entries.{climbReads, checkReads, climb-reads, check-reads, relinks-reads}
-use Rattle.turns.proofs.Searches.{queuedOn, readOn, census-queues, regions-queues}
+use Rattle.turns.proofs.Searches.{readOn, census-queues, regions-queues}
 
 -- darts gone
 abbrev pub goneOf : Folded → ℕ

@@ -2,6 +2,7 @@ pub mod Counts
 pub mod Strings
 pub mod Climbs
 pub mod Entries
+pub mod Adds
 pub mod Queues
 pub mod Searching
 pub mod Searches

@@ -1,18 +1,18 @@
 -- Each dart stands in one queue, once: searches over one set of flags together queue no more darts than there are to be reached. Assumes nothing.
 use mathlib.Core.Path.{_≡_, refl, sym, ap, _∙_}
-use mathlib.Core.Logic.{_⊎_, inl, inr}
+use mathlib.Core.Logic.{inl, inr}
 use mathlib.Core.Bool.{Bool, true, false, _&&_, not, true≢false}
 use mathlib.Core.List.{List, [], _∷_}
-use Prim.Native.Nat.{ℕ, zero, suc, _+_, _-_, _*_, _≤_, _<_}
+use Prim.Native.Nat.{ℕ, zero, suc, _+_, _-_, _≤_, _<_}
 use native.Mathlib.Omega.{arith}
-use lib.ListN.{length, getD}
+use lib.ListN.{getD}
 use lib.Dec.{ltb}
 use borrow.Author.Tests.{ltb-true, ltb-false}
 use Rattle.maps.specs.Count.{one, count, sum}
 use Rattle.maps.specs.Map.{Involutions}
-use Rattle.laws.proofs.Counting.{Mem, Nodup, pigeon, gather, mem-gather, nodup-gather, length-gather, sum-const, count-le}
+use Rattle.laws.proofs.Counting.{Mem, pigeon, gather, mem-gather, nodup-gather, length-gather, sum-const, count-le}
 use Rattle.orbits.specs.Search.{State, has}
-use Rattle.orbits.specs.Orbits.{Closed, Added, Queued, Found}
+use Rattle.orbits.specs.Orbits.{Closed, Queued, Found}
 use Rattle.orbits.proofs.Orbits.{closed-orbit}
 use Rattle.turns.specs.Queues.{Run, queuedIn}
 use Rattle.turns.proofs.Counts.{count-within}

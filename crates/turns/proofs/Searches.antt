@@ -1,14 +1,14 @@
 -- Each dart stands in one queue, once: what marking, census and region names queue and read in all their searches together. Assumes nothing.
-use mathlib.Core.Path.{_≡_, refl, sym, ap, _∙_}
-use mathlib.Core.Logic.{_⊎_, inl, inr}
+use mathlib.Core.Path.{_≡_, refl, sym, _∙_}
+use mathlib.Core.Logic.{inl, inr}
 use mathlib.Core.Bool.{Bool, true, false, cond, _&&_, _||_, not, true≢false}
 use mathlib.Core.List.{List}
-use Prim.Native.Nat.{ℕ, zero, suc, _+_, _-_, _*_, _≤_, _<_}
+use Prim.Native.Nat.{ℕ, zero, suc, _+_, _*_, _≤_, _<_}
 use native.Mathlib.Nat.{mul-add, mul-le-mul-left}
 use native.Mathlib.Omega.{arith}
-use lib.ListN.{length, getD, length-replicate}
+use lib.ListN.{length, length-replicate}
 use lib.Dec.{eqb, ltb}
-use Rattle.maps.specs.Count.{one, count, sum}
+use Rattle.maps.specs.Count.{count, sum}
 use Rattle.maps.specs.Map.{Involutions}
 use Rattle.maps.specs.Table.{entry, each}
 use Rattle.maps.specs.Folded.{survives, survivors, marks, level, levelTable, ofParts}
@@ -17,7 +17,7 @@ use Rattle.maps.specs.Explicit.{present}
 use Rattle.laws.proofs.Counting.{count-le, count-same, count-minus, sum-const}
 use Rattle.laws.proofs.Verdicts.{and-both}
 use Rattle.facts.proofs.Stored.{stored-present}
-use Rattle.orbits.specs.Search.{State, has, Room}
+use Rattle.orbits.specs.Search.{has, Room}
 use Rattle.orbits.specs.Explicit.{ExplicitLevel, but}
 use Rattle.orbits.proofs.Sets.{none-has}
 use Rattle.orbits.proofs.Explicit.{level-valid}
@@ -25,9 +25,9 @@ use Rattle.orbits.specs.Choices.{chosen}
 use Rattle.regions.specs.Searches.{Leads as Asked}
 use Rattle.cells.specs.Marked.{failing, undivided}
 use Rattle.counting.proofs.Levels.{survivors-valid, table-explicit}
-use Rattle.turns.specs.Searches.{none, Work, begun, anew, searched, searchReads, eachDart, inFirst, inSecond, nameStep, countStep, countedCells, namedOrbits, spoilStep, divideStep, pieceStep, spareStep, spoiled, divided, spared}
+use Rattle.turns.specs.Searches.{none, Work, begun, anew, searched, eachDart, inFirst, inSecond, nameStep, countStep, countedCells, namedOrbits, spoilStep, divideStep, pieceStep, spareStep, spoiled, divided, spared}
 use Rattle.turns.proofs.Counts.{count-within, sum-at-most}
-use Rattle.turns.proofs.Searching.{Leads, Adding, search-adds, search-reads}
+use Rattle.turns.proofs.Searching.{Leads, search-adds, search-reads}
 
 -- what every step keeps, a loop over all darts keeps
 each-keeps : (P : Work → Type 0) (step : Work → ℕ → Work) (w : Work) (m : ℕ) → ((v : Work) (d : ℕ) → d < m → P v → P (step v d)) → P w → P (eachDart step w m)

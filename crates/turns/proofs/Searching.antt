@@ -1,15 +1,15 @@
 -- One search turns so many flags as it queues darts, all of them within a set that the rows used do not lead out of. Assumes nothing.
-use mathlib.Core.Path.{_≡_, refl, sym, ap, _∙_}
+use mathlib.Core.Path.{_≡_, refl, ap, _∙_}
 use mathlib.Core.Logic.{_⊎_, inl, inr}
 use mathlib.Core.Bool.{Bool, true, false, cond}
 use mathlib.Core.List.{List}
-use Prim.Native.Nat.{ℕ, zero, suc, _+_, _-_, _*_, _≤_, _<_}
+use Prim.Native.Nat.{ℕ, zero, suc, _+_, _*_, _≤_, _<_}
 use native.Mathlib.Nat.{mul-comm}
 use native.Mathlib.Omega.{arith}
 use lib.ListN.{length, getD, set, length-set}
 use lib.Dec.{ltb}
 use borrow.Author.Tests.{ltb-true}
-use Rattle.maps.specs.Count.{count, sum}
+use Rattle.maps.specs.Count.{count}
 use Rattle.maps.specs.Map.{Involutions}
 use Rattle.laws.proofs.Counting.{sum-const}
 use Rattle.orbits.specs.Search.{State, has, state, Room, pushed, spread, turns}

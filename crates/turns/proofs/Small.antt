@@ -1,12 +1,11 @@
 -- The counts on a small map, by computation: the square of four edges, of which three vertices are removed. Bounds are reached there. Assumes nothing.
 use mathlib.Core.Path.{_≡_, refl}
-use mathlib.Core.Bool.{Bool, true, false, not}
+use mathlib.Core.Bool.{true, false}
 use mathlib.Core.List.{List, [], _∷_}
-use Prim.Native.Nat.{ℕ, suc, _+_, _*_}
+use Prim.Native.Nat.{ℕ}
 use lib.ListN.{replicate}
-use lib.Dec.{eqb}
 use Rattle.maps.specs.Count.{count, sum}
-use Rattle.maps.specs.Mark.{isMark, between, stay, contracts, canPass, across}
+use Rattle.maps.specs.Mark.{isMark, between}
 use Rattle.maps.specs.Table.{entry, each}
 use Rattle.maps.specs.ByLevels.{readBase, overLevel, readLevel}
 use Rattle.orbits.specs.Search.{pushed, spread, turns}

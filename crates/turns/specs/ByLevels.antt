@@ -29,9 +29,9 @@ module _ (a : Involutions) (n N h : ℕ) (Λ Δ : ℕ → ℕ) (i b : ℕ) (w : 
   unfoldable pub tallyBase : ℕ → ℕ → ℕ → ℕ
   tallyBase t d c = w .call 0 + (cond (ltb c (1 + 2 * N)) (w .entry) 0 + ifStopped (readBase a n N h Λ Δ i b t d c) (w .begun 0))
 
-  -- the walk over level l, as `overLevel` walks, where `below` reads that level and `tally` counts each reading there
+  -- the walk over level l, as `overLevel` walks, where `below` reads that level and `tally` counts each reading there; at its limit of turns, which is never reached, it stops
   unfoldable pub tallyOver : (ℕ → ℕ → ℕ → Walked) → (ℕ → ℕ → ℕ → ℕ) → ℕ → ℕ → ℕ → ℕ → ℕ → ℕ
-  tallyOver below tally l zero t d c = 0
+  tallyOver below tally l zero t d c = w .begun (suc l)
   tallyOver below tally l (suc times) t d c = tally t d c + elim (below t d c) [
     | stopped number row dart ↦ w .passed (suc l)
     | ended u e c₁ ↦ elim (gone Λ (suc l) e) [

@@ -1,5 +1,5 @@
 -- The loops of marking, census and region names that search, with the darts that they queue and the entries that their searches read. A search is what the contract of `orbit` leaves; that the loops around are these is read in the code. Assumes nothing: these are definitions.
-use mathlib.Core.Bool.{Bool, true, false, cond, _&&_, not}
+use mathlib.Core.Bool.{Bool, false, cond, _&&_, not}
 use mathlib.Core.List.{List}
 use Prim.Native.Nat.{ℕ, zero, suc, _+_}
 use lib.ListN.{getD, replicate}
