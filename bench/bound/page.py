@@ -321,6 +321,7 @@ def archives(tool):
 
 ENTRIES = [
     ("a check; taking, writing, decimation, a census, starting again and regions begin or end with one", "(n+8)g", "`check-reads` in Entries.antt"),
+    ("zg_add", "(n+8)g, with g of the mark row too", "`add-reads` in Adds.antt"),
     ("zg_read", "1 + 2N; where a neighbour is found, the count answered", "`walk-entries`, `found-entries` in Walks.antt"),
     ("zg_unfold", "(n+1)N(1 + 2N); of accepted pyramids as above", "`level-entries` in Walks.antt"),
     ("zg_read_by_levels", "1 + 2N; at most l calls above level 0 for each entry and one more; of accepted pyramids the direct walk's count", "`levels-work`, `calls-above`, `accepted-work` in ByLevels.antt"),
