@@ -14,7 +14,7 @@ ghost use Rattle.maps.specs.Table.{entry};
 ghost use Rattle.maps.specs.CheckBase.{checkBase, checkExplicit};
 ghost use Rattle.answers.specs.Numbers.{verdictOf};
 ghost use Rattle.answers.specs.Rows.{Rows};
-ghost use Rattle.bases.specs.InTable.{Row, presentIf, straysIn, notTwiceIn, notCommutingIn, check5In, check7In, checkMapIn, checkIn};
+ghost use Rattle.bases.specs.InTable.{Row, presentIf, Leads, Crossing, straysIn, notTwiceIn, notCommutingIn, check5In, check7In, checkMapIn, checkIn};
 ghost use Rattle.bases.specs.Places.{refusedAt, numberOf, dueAt, soughtIn};
 
 // "The first place found is the one reported": its row and dart.
@@ -57,7 +57,7 @@ fn strays(explicit: bool, table: &[u16], darts: u16, i: Dim, d: u16) -> bool
 
 // Is number 6 due at row i of dart d? Where d is present, its entry there is a dart.
 fn not_twice(explicit: bool, table: &[u16], darts: u16, i: Dim, d: u16) -> bool
-    requires { ⌜ Row darts (now table) 0 × Row darts (now table) (i .0) × (d < darts) × (presentIf explicit darts (now table) d ≡ true → entry darts (now table) (i .0) d < darts) ⌝ }
+    requires { ⌜ Row darts (now table) 0 × Row darts (now table) (i .0) × (d < darts) × Leads explicit darts (now table) (i .0) d ⌝ }
     ensures { λ r. ⌜ r ≡ notTwiceIn explicit darts (now (table .entry)) (i .0) d ⌝ }
 {
     if there(explicit, table, darts, d) {
@@ -69,7 +69,7 @@ fn not_twice(explicit: bool, table: &[u16], darts: u16, i: Dim, d: u16) -> bool
 
 // Is number 7 due at rows i and j of dart d? Where d is present, its entries there are darts.
 fn not_commuting(explicit: bool, table: &[u16], darts: u16, i: Dim, j: Dim, d: u16) -> bool
-    requires { ⌜ Row darts (now table) 0 × Row darts (now table) (i .0) × Row darts (now table) (j .0) × (i .0 + 1 < j .0) × (d < darts) × (presentIf explicit darts (now table) d ≡ true → (entry darts (now table) (i .0) d < darts) × (entry darts (now table) (j .0) d < darts)) ⌝ }
+    requires { ⌜ Crossing explicit darts (now table) (i .0) (j .0) d ⌝ }
     ensures { λ r. ⌜ r ≡ notCommutingIn explicit darts (now (table .entry)) (i .0) (j .0) d ⌝ }
 {
     if there(explicit, table, darts, d) {
@@ -82,7 +82,7 @@ fn not_commuting(explicit: bool, table: &[u16], darts: u16, i: Dim, j: Dim, d: u
 
 // Is the number that a test seeks due at row i of dart d?
 fn due(test: Test, explicit: bool, table: &[u16], darts: u16, i: Dim, d: u16) -> bool
-    requires { ⌜ Row darts (now table) 0 × Row darts (now table) (i .0) × (d < darts) × (test ≡ Test.NotTwice → presentIf explicit darts (now table) d ≡ true → entry darts (now table) (i .0) d < darts) ⌝ }
+    requires { ⌜ Row darts (now table) 0 × Row darts (now table) (i .0) × (d < darts) × (test ≡ Test.NotTwice → Leads explicit darts (now table) (i .0) d) ⌝ }
     ensures { λ r. ⌜ r ≡ dueAt test explicit darts (now (table .entry)) (i .0) d ⌝ }
 {
     match test {

@@ -7,6 +7,7 @@ use answers::Level;
 use answers::MOST_ENTRIES;
 use answers::MOST_ROWS;
 use answers::ROOM;
+use answers::Sizes;
 use taking::Taken;
 ghost use mathlib.Core.Path.{_≡_};
 ghost use Prim.Native.Nat.{_≤_};
@@ -56,30 +57,12 @@ fn all_levels(n: Dim, h: Level, cells: [[u16; MOST_ROWS]; LEVELS], sums: [i32; L
 }
 
 // The census of the pyramid of a record, which checks it first.
-fn print_census(
-    n: Dim,
-    darts: u16,
-    h: Level,
-    rows: &[u16],
-    lambda: &[u8],
-    delta: &[u8],
-    table: &mut [u16],
-) {
+fn print_census(sizes: Sizes, rows: &[u16], lambda: &[u8], delta: &[u8], table: &mut [u16]) {
     let mut cells = [[0u16; MOST_ROWS]; LEVELS];
     let mut sums = [0i32; LEVELS];
-    match counting::census(
-        n,
-        darts,
-        h,
-        rows,
-        lambda,
-        delta,
-        table,
-        &mut cells,
-        &mut sums,
-    ) {
+    match counting::census(sizes, rows, lambda, delta, table, &mut cells, &mut sums) {
         Check::Refused(r) => programs::refuse(1, r),
-        Check::Accepted => all_levels(n, h, cells, sums),
+        Check::Accepted => all_levels(sizes.n, sizes.h, cells, sums),
     }
 }
 
@@ -103,9 +86,7 @@ fn main() {
             let width = sizes.darts as usize;
             let size = answers::entries(sizes.n, sizes.darts);
             print_census(
-                sizes.n,
-                sizes.darts,
-                sizes.h,
+                sizes,
                 &rows[..size],
                 &lambda[..width],
                 &delta[..width],

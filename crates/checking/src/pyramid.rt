@@ -10,13 +10,12 @@ use answers::STAY;
 use answers::Sizes;
 ghost use mathlib.Core.Path.{_≡_};
 ghost use mathlib.Core.Bool.{false, cond, _&&_, not};
-ghost use mathlib.Core.List.{[]};
 ghost use Prim.Native.Nat.{ℕ, suc, _*_, _≤_, _<_};
 ghost use lib.ListN.{length};
 ghost use lib.Dec.{eqb};
 ghost use Rattle.maps.specs.Mark.{isMark, stay};
 ghost use Rattle.maps.specs.Table.{each, listed};
-ghost use Rattle.maps.specs.Folded.{addΛ, addΔ, ofParts};
+ghost use Rattle.maps.specs.Folded.{addΛ, addΔ};
 ghost use Rattle.maps.specs.MarkRow.{Row};
 ghost use Rattle.maps.specs.Verdict.{accepted};
 ghost use Rattle.maps.specs.CheckPyramid.{checkLent, checkLeaves};
@@ -26,7 +25,7 @@ ghost use Rattle.answers.specs.Numbers.{verdictOf};
 ghost use Rattle.climbing.specs.Climb.{Base};
 ghost use Rattle.checking.specs.Checked.{lentSizes, baseSizes, baseAndMarks, earlyOf};
 ghost use Rattle.checking.specs.Added.{addSizes, rowMarks, addMarks, ascends, ascendLeaves};
-ghost use Rattle.checking.specs.Answers.{addedOf, heightOf};
+ghost use Rattle.checking.specs.Answers.{verdictBy, heightOf};
 
 // Have base rows, Λ and Δ the exact lengths, and what else is lent?
 fn fit(n: Dim, darts: u16, rows: usize, lambda: usize, delta: usize, others: bool) -> bool
@@ -85,9 +84,9 @@ pub fn check(sizes: Sizes, rows: &[u16], lambda: &[u8], delta: &[u8], table: &mu
     climbing::rise(sizes, rows, lambda, delta, table)
 }
 
-// The new height, or a refusal.
-pub enum Added {
-    Grown(Level),
+// The height once kernels are added or joined, or why it stays.
+pub enum Height {
+    Now(Level),
     Refused(Refusal),
 }
 
@@ -140,7 +139,12 @@ fn any_refused(n: Dim, h: Level, lambda: &[u8], row: &[u8]) -> bool
 {
     let mut any = false;
     for at in 0..row.len() {
-        let refused = mark_refused(n, h, Level(lambda[at]), Mark(row[at]));
+        let refused = mark_refused(
+            n,
+            h,
+            answers::lambda_at(lambda, at),
+            answers::delta_at(row, at),
+        );
         any = any | refused;
     }
     any
@@ -153,7 +157,12 @@ fn first_refused(n: Dim, darts: u16, h: Level, lambda: &[u8], row: &[u8]) -> Che
 {
     for d in 0..darts {
         let at = d as usize;
-        if mark_refused(n, h, Level(lambda[at]), Mark(row[at])) {
+        if mark_refused(
+            n,
+            h,
+            answers::lambda_at(lambda, at),
+            answers::delta_at(row, at),
+        ) {
             return Check::Refused(Refusal::Marks(h, Dim(0), d));
         }
     }
@@ -213,9 +222,9 @@ fn fold_in(n: Dim, h: Level, row: &[u8], lambda: &mut [u8], delta: &mut [u8])
     ensures delta_left { λ _. ⌜ now (delta .exit) ≡ listed (addΔ (n .0) (each (now (delta .entry))) (each (now (row .entry)))) (length (now (row .entry))) ⌝ }
 {
     for d in 0..row.len() {
-        let mark = Mark(row[d]);
-        let new_lambda = lambda_after(n, h, Level(lambda[d]), mark);
-        let new_delta = delta_after(n, Mark(delta[d]), mark);
+        let mark = answers::delta_at(row, d);
+        let new_lambda = lambda_after(n, h, answers::lambda_at(lambda, d), mark);
+        let new_delta = delta_after(n, answers::delta_at(delta, d), mark);
         lambda[d] = new_lambda.0;
         delta[d] = new_delta.0;
     }
@@ -298,22 +307,22 @@ pub fn add(
     delta: &mut [u8],
     row: &[u8],
     table: &mut [u16],
-) -> Added
-    ensures answer { λ r. ⌜ addedOf r ≡ addLent (lent sizes (rows .entry) (lambda .entry) (delta .entry)) (now (row .entry)) (now (table .entry)) ⌝ }
+) -> Height
+    ensures answer { λ r. ⌜ verdictBy r ≡ addLent (lent sizes (rows .entry) (lambda .entry) (delta .entry)) (now (row .entry)) (now (table .entry)) ⌝ }
     ensures height { λ r. ⌜ heightOf (sizes .h .0) r ≡ addHeight (lent sizes (rows .entry) (lambda .entry) (delta .entry)) (now (row .entry)) (now (table .entry)) ⌝ }
     ensures lambda_left { λ _. ⌜ now (lambda .exit) ≡ addLambda (lent sizes (rows .entry) (lambda .entry) (delta .entry)) (now (row .entry)) (now (table .entry)) ⌝ }
     ensures delta_left { λ _. ⌜ now (delta .exit) ≡ addDelta (lent sizes (rows .entry) (lambda .entry) (delta .entry)) (now (row .entry)) (now (table .entry)) ⌝ }
     ensures table_left { λ _. ⌜ now (table .exit) ≡ addLeaves (lent sizes (rows .entry) (lambda .entry) (delta .entry)) (now (row .entry)) (now (table .entry)) ⌝ }
 {
     if let Check::Refused(r) = add_lent(sizes, rows, lambda, delta, row, table) {
-        return Added::Refused(r);
+        return Height::Refused(r);
     }
     if let Check::Refused(r) = add_marked(sizes, rows, lambda, delta, row) {
-        return Added::Refused(r);
+        return Height::Refused(r);
     }
     if let Check::Refused(r) = ascend(sizes, rows, lambda, delta, row, table) {
-        return Added::Refused(r);
+        return Height::Refused(r);
     }
     fold_in(sizes.n, sizes.h, row, lambda, delta);
-    Added::Grown(Level(sizes.h.0 + 1))
+    Height::Now(Level(sizes.h.0 + 1))
 }

@@ -96,7 +96,7 @@ module _ {P : Folded} {l : ℕ} {head next table : List ℕ} (c : Climbed P l he
     climb-tested =
         let b = c .base in
         record {
-          shape = record { dimension = b .dimension; darts = b .darts; long = climb-long ∙ b .rows-long };
+          shape = record { dimension = b .dimension; darts = b .darts; exact = climb-long ∙ b .rows-long };
           sound = rw (c .holds) (table-sound (entry N rows) n N h (each lambda) (each delta) (b .dimension) (b .darts) (b .valid) (b .allowed) l (c .low) (c .checked));
           marked = rw (c .holds) (marked-present (entry N rows) n N h (each lambda) (each delta) (b .dimension) (b .darts) (b .valid) (b .allowed) l (c .low) (c .checked) row marked-above);
         }

@@ -8,10 +8,10 @@ ghost use mathlib.Core.Path.{_≡_};
 ghost use Prim.Native.Nat.{_+_, _/_, _<_};
 ghost use lib.ListN.{length};
 ghost use Rattle.maps.specs.Table.{entry, listed};
-ghost use Rattle.maps.specs.Partner.{exportLent, Exports};
 ghost use Rattle.answers.specs.Numbers.{verdictOf};
 ghost use Rattle.answers.specs.Rows.{Rows};
 ghost use Rattle.combinatorial.specs.Back.{testsBack, Says, alternatesAt, Alternates, edgeOf, vertexOf};
+ghost use Rattle.combinatorial.specs.Left.{ExportLeft};
 
 // Numbers 1, 2 and 4, and 5, 6 and 7 as in the base check.
 fn base_refused(n: Dim, darts: u16, rows: &[u16], edges: usize, vertices: usize) -> Check
@@ -81,7 +81,7 @@ fn take_rows(darts: u16, rows: &[u16], edges: &mut [u16], vertices: &mut [u16])
 
 // Take a base back. All is tested before an entry is written.
 pub fn export(n: Dim, darts: u16, rows: &[u16], edges: &mut [u16], vertices: &mut [u16]) -> Check
-    ensures { λ r. ⌜ Exports (now (rows .entry)) (now (edges .entry)) (now (vertices .entry)) (exportLent (n .0) darts (now (rows .entry)) (now (edges .entry)) (now (vertices .entry))) (verdictOf r) (now (edges .exit)) (now (vertices .exit)) ⌝ }
+    ensures { λ r. ⌜ ExportLeft (n .0) darts (rows .entry) (edges .entry) (vertices .entry) (verdictOf r) (edges .exit) (vertices .exit) ⌝ }
 {
     if let Check::Refused(r) = base_refused(n, darts, rows, edges.len(), vertices.len()) {
         return Check::Refused(r);

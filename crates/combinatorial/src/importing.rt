@@ -12,9 +12,10 @@ ghost use lib.Dec.{eqb};
 ghost use Rattle.maps.specs.Verdict.{_then_};
 ghost use Rattle.maps.specs.Sizes.{number4};
 ghost use Rattle.maps.specs.Table.{each};
-ghost use Rattle.maps.specs.Partner.{number2M, outside as outsideOf, edgesBack, number21, importLent, ImportLeaves};
+ghost use Rattle.maps.specs.Partner.{number2M, outside as outsideOf, edgesBack, number21, importLent};
 ghost use Rattle.answers.specs.Numbers.{verdictOf};
 ghost use Rattle.combinatorial.specs.Rows.{Row, testsOf, Kept, Pairs, Turns};
+ghost use Rattle.combinatorial.specs.Left.{ImportLeft};
 
 // Numbers 2 and 4: M, and whether every slice lent has the exact length.
 fn sizes(darts: u16, edges: usize, vertices: usize, rows: usize) -> Check
@@ -165,7 +166,7 @@ fn put_sides(darts: u16, rows: &mut [u16])
 // Bring in a 2D combinatorial map of M darts. All is tested before an entry is written.
 pub fn import(darts: u16, edges: &[u16], vertices: &[u16], rows: &mut [u16]) -> Check
     ensures verdict { λ r. ⌜ verdictOf r ≡ importLent darts (now (edges .entry)) (now (vertices .entry)) (now (rows .entry)) ⌝ }
-    ensures rows_left { λ _. ⌜ ImportLeaves darts (now (edges .entry)) (now (vertices .entry)) (now (rows .entry)) (importLent darts (now (edges .entry)) (now (vertices .entry)) (now (rows .entry))) (now (rows .exit)) ⌝ }
+    ensures rows_left { λ _. ⌜ ImportLeft darts (edges .entry) (vertices .entry) (rows .entry) (rows .exit) ⌝ }
 {
     if let Check::Refused(r) = sizes(darts, edges.len(), vertices.len(), rows.len()) {
         return Check::Refused(r);

@@ -5,7 +5,6 @@ mod sums; // sums.rt: the alternating sums
 
 use answers::ABSENT;
 use answers::Check;
-use answers::Dim;
 use answers::LEVELS;
 use answers::Level;
 use answers::MOST_ROWS;
@@ -21,11 +20,10 @@ ghost use Prim.Native.Nat.{_+_, _<_};
 ghost use lib.ListN.{set};
 ghost use Rattle.maps.specs.Accepted.{Accepted};
 ghost use Rattle.maps.specs.CheckPyramid.{checkLent, checkLeaves, tableAt};
-ghost use Rattle.maps.specs.Census.{CensusLeaves};
-ghost use Rattle.maps.specs.Folded.{ofParts};
-ghost use Rattle.answers.specs.Pyramid.{given, lent};
+ghost use Rattle.answers.specs.Pyramid.{lent};
 ghost use Rattle.answers.specs.Numbers.{verdictOf};
 ghost use Rattle.counting.specs.Counts.{zeroed, Counted};
+ghost use Rattle.counting.specs.Left.{CensusLeft};
 
 // No count at all.
 fn zeros() -> [[u16; MOST_ROWS]; LEVELS]
@@ -86,9 +84,7 @@ fn count_levels(
 
 // A census of an accepted pyramid: row l of the counts is level l, entry i of a row its cells of dimension i; unused places are 0. The table is left as a check leaves it; refused, counts and sums are as found.
 pub fn census(
-    n: Dim,
-    darts: u16,
-    h: Level,
+    sizes: Sizes,
     rows: &[u16],
     lambda: &[u8],
     delta: &[u8],
@@ -96,11 +92,10 @@ pub fn census(
     cells: &mut [[u16; MOST_ROWS]; LEVELS],
     sums: &mut [i32; LEVELS],
 ) -> Check
-    ensures verdict { λ r. ⌜ verdictOf r ≡ checkLent (given (n .0) darts (h .0) (rows .entry) (lambda .entry) (delta .entry)) (now (table .entry)) ⌝ }
-    ensures table_left { λ _. ⌜ now (table .exit) ≡ checkLeaves (given (n .0) darts (h .0) (rows .entry) (lambda .entry) (delta .entry)) (now (table .entry)) ⌝ }
-    ensures counts { λ _. ⌜ CensusLeaves (given (n .0) darts (h .0) (rows .entry) (lambda .entry) (delta .entry)) (checkLent (given (n .0) darts (h .0) (rows .entry) (lambda .entry) (delta .entry)) (now (table .entry))) (now (cells .entry)) (now (sums .entry)) (now (cells .exit)) (now (sums .exit)) ⌝ }
+    ensures verdict { λ r. ⌜ verdictOf r ≡ checkLent (lent sizes (rows .entry) (lambda .entry) (delta .entry)) (now (table .entry)) ⌝ }
+    ensures table_left { λ _. ⌜ now (table .exit) ≡ checkLeaves (lent sizes (rows .entry) (lambda .entry) (delta .entry)) (now (table .entry)) ⌝ }
+    ensures counts { λ _. ⌜ CensusLeft (lent sizes (rows .entry) (lambda .entry) (delta .entry)) (table .entry) (cells .entry) (sums .entry) (cells .exit) (sums .exit) ⌝ }
 {
-    let sizes = Sizes { n, h, darts };
     if let Check::Refused(r) = checking::check(sizes, rows, lambda, delta, table) {
         return Check::Refused(r);
     }

@@ -1,17 +1,17 @@
 // The census in slices, for callers that lend no arrays: row l of the counts stands at 5l. 330 bytes of counts and 132 of sums are kept besides. Assumes nothing.
 use answers::Check;
-use answers::Dim;
 use answers::LEVELS;
 use answers::Level;
 use answers::MOST_ROWS;
 use answers::Sizes;
 ghost use mathlib.Core.Path.{_≡_};
-ghost use Prim.Native.Nat.{_≤_, _<_};
+ghost use Prim.Native.Nat.{_<_};
 ghost use lib.ListN.{length};
-ghost use Rattle.maps.specs.Census.{censusLent, censusTable, CensusPutLeaves};
-ghost use Rattle.answers.specs.Pyramid.{given};
+ghost use Rattle.maps.specs.Census.{censusLent, censusTable};
+ghost use Rattle.answers.specs.Pyramid.{lent};
 ghost use Rattle.answers.specs.Numbers.{verdictOf};
 ghost use Rattle.counting.specs.Slices.{RowPut, CellsPut, Fitting};
+ghost use Rattle.counting.specs.Left.{CensusPutLeft};
 
 // The counts of all levels.
 const COUNTS: usize = LEVELS * MOST_ROWS;
@@ -50,9 +50,7 @@ fn put_sums(all: [i32; LEVELS], sums: &mut [i32])
 
 // A census into 165 counts and 33 sums; slices of other lengths are refused as all others are.
 pub fn census_into(
-    n: Dim,
-    darts: u16,
-    h: Level,
+    sizes: Sizes,
     rows: &[u16],
     lambda: &[u8],
     delta: &[u8],
@@ -60,19 +58,17 @@ pub fn census_into(
     cells: &mut [u16],
     sums: &mut [i32],
 ) -> Check
-    ensures verdict { λ r. ⌜ verdictOf r ≡ censusLent (given (n .0) darts (h .0) (rows .entry) (lambda .entry) (delta .entry)) (now (table .entry)) (now (cells .entry)) (now (sums .entry)) ⌝ }
-    ensures table_left { λ _. ⌜ now (table .exit) ≡ censusTable (given (n .0) darts (h .0) (rows .entry) (lambda .entry) (delta .entry)) (now (table .entry)) (now (cells .entry)) (now (sums .entry)) ⌝ }
-    ensures counts_left { λ _. ⌜ CensusPutLeaves (given (n .0) darts (h .0) (rows .entry) (lambda .entry) (delta .entry)) (censusLent (given (n .0) darts (h .0) (rows .entry) (lambda .entry) (delta .entry)) (now (table .entry)) (now (cells .entry)) (now (sums .entry))) (now (cells .entry)) (now (sums .entry)) (now (cells .exit)) (now (sums .exit)) ⌝ }
+    ensures verdict { λ r. ⌜ verdictOf r ≡ censusLent (lent sizes (rows .entry) (lambda .entry) (delta .entry)) (now (table .entry)) (now (cells .entry)) (now (sums .entry)) ⌝ }
+    ensures table_left { λ _. ⌜ now (table .exit) ≡ censusTable (lent sizes (rows .entry) (lambda .entry) (delta .entry)) (now (table .entry)) (now (cells .entry)) (now (sums .entry)) ⌝ }
+    ensures counts_left { λ _. ⌜ CensusPutLeft (lent sizes (rows .entry) (lambda .entry) (delta .entry)) (table .entry) (cells .entry) (sums .entry) (cells .exit) (sums .exit) ⌝ }
 {
     if !answers::both(cells.len() == COUNTS, sums.len() == LEVELS) {
-        return answers::lent(Sizes { n, h, darts }, false);
+        return answers::lent(sizes, false);
     }
     let mut counts = crate::zeros();
     let mut all = [0i32; LEVELS];
     if let Check::Refused(r) = crate::census(
-        n,
-        darts,
-        h,
+        sizes,
         rows,
         lambda,
         delta,

@@ -140,8 +140,8 @@ fn added(name: &[u8], h: Level) {
         &[255u8],
         &mut table,
     ) {
-        checking::Added::Grown(_) => taken(name),
-        checking::Added::Refused(r) => refused(name, r),
+        checking::Height::Now(_) => taken(name),
+        checking::Height::Refused(r) => refused(name, r),
     }
 }
 

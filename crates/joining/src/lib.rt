@@ -7,6 +7,7 @@ use answers::Level;
 use answers::ROOM;
 use answers::Refusal;
 use answers::Sizes;
+use checking::Height;
 use climbing::Stretch;
 use kernels::HEADS;
 use kernels::Kernel;
@@ -17,17 +18,11 @@ ghost use lib.ListN.{length};
 ghost use lib.Dec.{leb, ltb};
 ghost use Rattle.maps.specs.Table.{each, listed};
 ghost use Rattle.maps.specs.Join.{joinΛ, joinLent, joinHeight, joinLambda, joinLeaves};
-ghost use Rattle.answers.specs.Pyramid.{lent, given};
+ghost use Rattle.answers.specs.Pyramid.{lent};
 ghost use Rattle.answers.specs.Numbers.{verdictOf};
 ghost use Rattle.climbing.specs.Climb.{Base};
-ghost use Rattle.joining.specs.Answers.{joinedOf, heightOf};
+ghost use Rattle.checking.specs.Answers.{verdictBy, heightOf};
 ghost use Rattle.joining.specs.Climbed.{climbsJoined, climbJoinedLeaves, Reached, Tells};
-
-// The answer: the height once the two kernels are one, or why they are not.
-pub enum Joined {
-    Lowered(Level),
-    Refused(Refusal),
-}
 
 // Are there no two kernels from this level on: is the next level not below h?
 fn no_pair(h: Level, level: Level) -> bool
@@ -129,50 +124,31 @@ fn climb(at: AtLevel, rows: &[u16], lambda: &[u8], delta: &[u8], table: &mut [u1
 }
 
 // Join the kernels of this level and the next. The pyramid is checked first; Λ is written only once the joined kernel is accepted.
-fn join_pair(
+pub fn join(
     sizes: Sizes,
     rows: &[u16],
     lambda: &mut [u8],
     delta: &[u8],
     table: &mut [u16],
     level: Level,
-) -> Joined
-    ensures answer { λ r. ⌜ joinedOf r ≡ joinLent (lent sizes (rows .entry) (lambda .entry) (delta .entry)) (now (table .entry)) (level .0) ⌝ }
+) -> Height
+    ensures answer { λ r. ⌜ verdictBy r ≡ joinLent (lent sizes (rows .entry) (lambda .entry) (delta .entry)) (now (table .entry)) (level .0) ⌝ }
     ensures height { λ r. ⌜ heightOf (sizes .h .0) r ≡ joinHeight (lent sizes (rows .entry) (lambda .entry) (delta .entry)) (now (table .entry)) (level .0) ⌝ }
     ensures lambda_left { λ _. ⌜ now (lambda .exit) ≡ joinLambda (lent sizes (rows .entry) (lambda .entry) (delta .entry)) (now (table .entry)) (level .0) ⌝ }
     ensures table_left { λ _. ⌜ now (table .exit) ≡ joinLeaves (lent sizes (rows .entry) (lambda .entry) (delta .entry)) (now (table .entry)) (level .0) ⌝ }
 {
     if no_pair(sizes.h, level) {
         if let Check::Refused(r) = checking::check(sizes, rows, lambda, delta, table) {
-            return Joined::Refused(r);
+            return Height::Refused(r);
         }
-        return Joined::Refused(Refusal::NoLevel(level, Dim(0), 0));
+        return Height::Refused(Refusal::NoLevel(level, Dim(0), 0));
     }
     if let Check::Refused(r) = checking::early(sizes, rows, lambda, delta, table) {
-        return Joined::Refused(r);
+        return Height::Refused(r);
     }
     if let Check::Refused(r) = climb(AtLevel { sizes, level }, rows, lambda, delta, table) {
-        return Joined::Refused(r);
+        return Height::Refused(r);
     }
     join_lambda(level, lambda);
-    Joined::Lowered(Level(sizes.h.0 - 1))
-}
-
-// The same, of sizes that come one by one.
-pub fn join(
-    n: Dim,
-    darts: u16,
-    h: Level,
-    rows: &[u16],
-    lambda: &mut [u8],
-    delta: &[u8],
-    table: &mut [u16],
-    level: Level,
-) -> Joined
-    ensures answer { λ r. ⌜ joinedOf r ≡ joinLent (given (n .0) darts (h .0) (rows .entry) (lambda .entry) (delta .entry)) (now (table .entry)) (level .0) ⌝ }
-    ensures height { λ r. ⌜ heightOf (h .0) r ≡ joinHeight (given (n .0) darts (h .0) (rows .entry) (lambda .entry) (delta .entry)) (now (table .entry)) (level .0) ⌝ }
-    ensures lambda_left { λ _. ⌜ now (lambda .exit) ≡ joinLambda (given (n .0) darts (h .0) (rows .entry) (lambda .entry) (delta .entry)) (now (table .entry)) (level .0) ⌝ }
-    ensures table_left { λ _. ⌜ now (table .exit) ≡ joinLeaves (given (n .0) darts (h .0) (rows .entry) (lambda .entry) (delta .entry)) (now (table .entry)) (level .0) ⌝ }
-{
-    join_pair(Sizes { n, h, darts }, rows, lambda, delta, table, level)
+    Height::Now(Level(sizes.h.0 - 1))
 }

@@ -12,23 +12,24 @@ use lib.Dec.{eqb}
 use borrow.Author.Tests.{eqb-true, eqb-false}
 use Rattle.maps.specs.Table.{entry}
 use Rattle.laws.proofs.Tables.{in-table, table-size, next-row}
-use Rattle.kernels.specs.Ready.{Shape, Place, TableIs}
+use Rattle.answers.specs.Rows.{Rows}
+use Rattle.kernels.specs.Ready.{Place, TableIs}
 
 -- a row and a dart have their place
-pub place : {n N : ℕ} {table : List ℕ} → Shape n N table → (i d : ℕ) → i ≤ n → d < N → Place N table i d
+pub place : {n N : ℕ} {table : List ℕ} → Rows n N table → (i d : ℕ) → i ≤ n → d < N → Place N table i d
 place {n} {N} s i d li ld =
     let t = table-size n N i (s .dimension) (s .darts) li in
-    record { darts = s .darts; dart = ld; inside = omega (arith, in-table n N i d li ld, s .long); small = omega (arith, s .long) }
+    record { darts = s .darts; dart = ld; inside = omega (arith, in-table n N i d li ld, s .exact); small = omega (arith, s .exact) }
 
 -- a row lies in the table
-pub row-inside : {n N : ℕ} {table : List ℕ} → Shape n N table → (i : ℕ) → i ≤ n → i * N + N ≤ length table
+pub row-inside : {n N : ℕ} {table : List ℕ} → Rows n N table → (i : ℕ) → i ≤ n → i * N + N ≤ length table
 row-inside {n} {N} s i li =
     let m : (i + 1) * N ≤ suc n * N = mul-le-mul-right N (omega arith) in
-    omega (arith, next-row i N, s .long)
+    omega (arith, next-row i N, s .exact)
 
 -- a table of the same length has the same shape, and the same places
-pub shape-still : {n N : ℕ} {before after : List ℕ} → Shape n N before → length after ≡ length before → Shape n N after
-shape-still s e = record { dimension = s .dimension; darts = s .darts; long = e ∙ s .long }
+pub shape-still : {n N : ℕ} {before after : List ℕ} → Rows n N before → length after ≡ length before → Rows n N after
+shape-still s e = record { dimension = s .dimension; darts = s .darts; exact = e ∙ s .exact }
 
 pub place-still : {N : ℕ} {before after : List ℕ} {i d : ℕ} → length after ≡ length before → Place N before i d → Place N after i d
 place-still e p = record { darts = p .darts; dart = p .dart; inside = rw e (p .inside); small = rw e (p .small) }

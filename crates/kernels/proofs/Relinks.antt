@@ -470,7 +470,7 @@ module _ {n N first : ℕ} {mark : ℕ → ℕ} {next before : List ℕ} (r : Re
 pub removed-is : {n N : ℕ} {mark : ℕ → ℕ} {before middle after : List ℕ} → Ready n N mark before → TableIs N (relinked n N mark before) before middle → Cleared N (λ t k. isMark n (mark k) && ltb t (n + 1)) middle after → after ≡ removedFrom n N mark before
 unfolding relinked removal
 removed-is {n} {N} {mark} {before} {middle} {after} r m c =
-    explicit-of (removal (entry N before) n mark N) n N (left n N mark before) after (c .long ∙ m .long ∙ r .tested .shape .long)
+    explicit-of (removal (entry N before) n mark N) n N (left n N mark before) after (c .long ∙ m .long ∙ r .tested .shape .exact)
     (λ i d li ld. c .rows i d ld ∙ rw (m .rows i d ld, lt-ltb i (n + 1) (omega arith)) (go i d li ld (isMark n (mark d)) refl (present N before d) refl))
   where
     go : (i d : ℕ) → i ≤ n → d < N → (x : Bool) → isMark n (mark d) ≡ x → (y : Bool) → present N before d ≡ y → cond (isMark n (mark d) && true) absent (relinked n N mark before i d) ≡ cond (left n N mark before d) (removal (entry N before) n mark N i d) absent

@@ -2,10 +2,10 @@
 use mathlib.Core.Path.{_≡_}
 use mathlib.Core.Bool.{Bool, true, cond, _&&_, not}
 use mathlib.Core.List.{List}
-use Prim.Native.Nat.{ℕ, suc, _+_, _*_, _<_, _≤_}
+use Prim.Native.Nat.{ℕ, _+_, _*_, _<_, _≤_}
 use lib.ListN.{length}
 use denote.Ref.{RefT, now}
-use lib.Dec.{ltb}
+use lib.Dec.{eqb, ltb}
 use Rattle.maps.specs.Verdict.{ifAccepted}
 use Rattle.maps.specs.Map.{Involutions}
 use Rattle.maps.specs.Count.{sum}
@@ -15,6 +15,7 @@ use Rattle.maps.specs.Removal.{goOn, turnsFrom, removal}
 use Rattle.maps.specs.Table.{entry, absent, explicit}
 use Rattle.maps.specs.Check.{checkKernel}
 use Rattle.maps.specs.Explicit.{present, There, Sound}
+use Rattle.answers.specs.Rows.{Rows}
 use Rattle.kernels.specs.declared.Kernel.{Kernel as Declared}
 use Rattle.kernels.specs.Strings.{kernelRow}
 
@@ -26,12 +27,6 @@ mapOf kernel table = entry (kernel .darts) (now table)
 abbrev pub rowOf : Declared → RefT (List ℕ) → RefT (List ℕ) → ℕ → ℕ
 rowOf kernel lambda delta = kernelRow (now lambda) (now delta) (kernel .level .0)
 
--- sizes in range, and the length that goes with them
-pub record Shape (n N : ℕ) (table : List ℕ) : Type 0 where
-  pub dimension : n ≤ 4
-  pub darts : N ≤ 4096
-  pub long : length table ≡ suc n * N
-
 -- the entry of row i and dart d lies in the table, and its place is small
 pub record Place (N : ℕ) (table : List ℕ) (i d : ℕ) : Type 0 where
   pub darts : N ≤ 4096
@@ -41,7 +36,7 @@ pub record Place (N : ℕ) (table : List ℕ) (i d : ℕ) : Type 0 where
 
 -- an explicit level, and a mark row that marks only darts present
 pub record Tested (n N : ℕ) (mark : ℕ → ℕ) (table : List ℕ) : Type 0 where
-  pub shape : Shape n N table
+  pub shape : Rows n N table
   pub sound : Sound (entry N table) n N (present N table)
   pub marked : (d : ℕ) → d < N → isMark n (mark d) ≡ true → present N table d ≡ true
 
@@ -52,13 +47,25 @@ pub record Ready (n N : ℕ) (mark : ℕ → ℕ) (table : List ℕ) : Type 0 wh
 
 -- what following the marks asks: from a dart marked every involution leads to a dart, and the one that passes it to a dart of the same mark
 pub record Followed (n N : ℕ) (mark : ℕ → ℕ) (table : List ℕ) : Type 0 where
-  pub shape : Shape n N table
+  pub shape : Rows n N table
   pub inside : (t d : ℕ) → t ≤ n → d < N → isMark n (mark d) ≡ true → entry N table t d < N
   pub whole : (d : ℕ) → d < N → isMark n (mark d) ≡ true → mark (entry N table (between (mark d) .1) d) ≡ mark d
 
 -- the darts that the removal leaves
 abbrev pub left : ℕ → ℕ → (ℕ → ℕ) → List ℕ → ℕ → Bool
 left n N mark table d = present N table d && not (isMark n (mark d))
+
+-- where following the marks of a kernel leads from dart d by row i
+abbrev pub pastMarks : Declared → RefT (List ℕ) → RefT (List ℕ) → RefT (List ℕ) → ℕ → ℕ → ℕ
+pastMarks kernel lambda delta table = goOn (mapOf kernel table) (kernel .n .0) (rowOf kernel lambda delta) (kernel .darts)
+
+-- and the turns that it takes
+abbrev pub turnsPast : Declared → RefT (List ℕ) → RefT (List ℕ) → RefT (List ℕ) → ℕ → ℕ → ℕ
+turnsPast kernel lambda delta table = turnsFrom (mapOf kernel table) (kernel .n .0) (rowOf kernel lambda delta) (kernel .darts)
+
+-- involution j, which is not the first row of this mark, leads from dart d to one that is not in the kernel with the mark
+abbrev pub leavesBy : Declared → RefT (List ℕ) → RefT (List ℕ) → RefT (List ℕ) → ℕ → ℕ → ℕ → Bool
+leavesBy kernel lambda delta table mark d j = not (eqb j (between mark .0)) && not (eqb (rowOf kernel lambda delta (mapOf kernel table j d)) mark)
 
 -- an entry below N of a dart that is not marked leads on past the marks; every other entry stays
 unfoldable pub relinked : ℕ → ℕ → (ℕ → ℕ) → List ℕ → ℕ → ℕ → ℕ
@@ -79,6 +86,10 @@ turnsMade n N mark table = sum (λ d. cond (firstOfLink n N mark table d) (turns
 pub record TableIs (N : ℕ) (f : ℕ → ℕ → ℕ) (before after : List ℕ) : Type 0 where
   pub long : length after ≡ length before
   pub rows : (t d : ℕ) → d < N → entry N after t d ≡ f t d
+
+-- the table after, with the links of the survivors past the marks of a kernel
+abbrev pub LinksPast : Declared → RefT (List ℕ) → RefT (List ℕ) → RefT (List ℕ) → RefT (List ℕ) → Type 0
+LinksPast kernel lambda delta before after = TableIs (kernel .darts) (relinked (kernel .n .0) (kernel .darts) (rowOf kernel lambda delta) (now before)) (now before) (now after)
 
 -- the table after, with 65,535 at the entries that pass the test; the others are as before
 abbrev pub Cleared : ℕ → (ℕ → ℕ → Bool) → List ℕ → List ℕ → Type 0

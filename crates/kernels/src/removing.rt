@@ -5,18 +5,17 @@ use super::strings::next_of;
 use super::strings::removed;
 use answers::ABSENT;
 use answers::Dim;
-use answers::Level;
 use answers::ROOM;
 ghost use mathlib.Core.Path.{_≡_};
 ghost use mathlib.Core.Bool.{Bool, _&&_};
 ghost use Prim.Native.Nat.{ℕ, _+_, _*_, _<_, _≤_};
 ghost use lib.ListN.{set};
 ghost use lib.Dec.{eqb, ltb};
-ghost use Rattle.maps.specs.Removal.{goOn, turnsFrom};
 ghost use Rattle.maps.specs.Mark.{between as betweenOf};
 ghost use Rattle.maps.specs.Table.{entry, each};
-ghost use Rattle.kernels.specs.Strings.{kernelRow, Along, Strings, Marks, Strung};
-ghost use Rattle.kernels.specs.Ready.{mapOf, rowOf, Shape, Place, Ready, Followed, relinked, turnsMade, TableIs, Cleared, removedFrom};
+ghost use Rattle.answers.specs.Rows.{Rows};
+ghost use Rattle.kernels.specs.Strings.{Along, Strings, Marks, Strung};
+ghost use Rattle.kernels.specs.Ready.{rowOf, Place, Ready, Followed, pastMarks, turnsPast, turnsMade, LinksPast, Cleared, removedFrom};
 
 // The entry of dart d in row i is stored.
 fn put(darts: usize, i: Dim, d: usize, entry: u16, table: &mut [u16])
@@ -51,8 +50,8 @@ struct End {
 fn follow(kernel: Kernel, lambda: &[u8], delta: &[u8], table: &[u16], start: Start) -> End
     requires { ⌜ Marks (kernel .n .0) (kernel .darts) (kernel .level .0) (now lambda) (now delta) × Followed (kernel .n .0) (kernel .darts) (rowOf kernel lambda delta) (now table) ⌝ }
     requires { ⌜ (start .row .0 ≤ kernel .n .0) × (start .dart < kernel .darts) × (each (now lambda) (start .dart) ≡ kernel .level .0) × (betweenOf (each (now delta) (start .dart)) .0 ≡ start .row .0) ⌝ }
-    ensures end { λ r. ⌜ (r .dart ≡ goOn (mapOf kernel (table .entry)) (kernel .n .0) (rowOf kernel (lambda .entry) (delta .entry)) (kernel .darts) (start .row .0) (start .dart)) × (r .dart < kernel .darts) ⌝ }
-    ensures turns { λ r. ⌜ r .turns ≡ turnsFrom (mapOf kernel (table .entry)) (kernel .n .0) (rowOf kernel (lambda .entry) (delta .entry)) (kernel .darts) (start .row .0) (start .dart) ⌝ }
+    ensures end { λ r. ⌜ (r .dart ≡ pastMarks kernel (lambda .entry) (delta .entry) (table .entry) (start .row .0) (start .dart)) × (r .dart < kernel .darts) ⌝ }
+    ensures turns { λ r. ⌜ r .turns ≡ turnsPast kernel (lambda .entry) (delta .entry) (table .entry) (start .row .0) (start .dart) ⌝ }
 {
     let darts = kernel.darts as usize;
     let l = kernel.level;
@@ -90,7 +89,7 @@ fn relink(
     requires { ⌜ Ready (kernel .n .0) (kernel .darts) (rowOf kernel lambda delta) (now table) ⌝ }
     requires { ⌜ Strung (kernel .n .0) (kernel .darts) (kernel .level .0) (kernel .first) (now lambda) (now delta) (now next) ⌝ }
     ensures answer { λ r. ⌜ r ≡ turnsMade (kernel .n .0) (kernel .darts) (rowOf kernel (lambda .entry) (delta .entry)) (now (table .entry)) ⌝ }
-    ensures table_left { λ _. ⌜ TableIs (kernel .darts) (relinked (kernel .n .0) (kernel .darts) (rowOf kernel (lambda .entry) (delta .entry)) (now (table .entry))) (now (table .entry)) (now (table .exit)) ⌝ }
+    ensures table_left { λ _. ⌜ LinksPast kernel (lambda .entry) (delta .entry) (table .entry) (table .exit) ⌝ }
 {
     let darts = kernel.darts as usize;
     let l = kernel.level;
@@ -127,7 +126,7 @@ fn clear_row(darts: usize, next: &[u16; ROOM], first: u16, i: Dim, table: &mut [
 
 // Every row cleared.
 fn clear(n: Dim, darts: usize, next: &[u16; ROOM], first: u16, table: &mut [u16])
-    requires { ⌜ Strings darts first (now next) × Shape (n .0) darts (now table) ⌝ }
+    requires { ⌜ Strings darts first (now next) × Rows (n .0) darts (now table) ⌝ }
     ensures { λ _. ⌜ ((test : ℕ → Bool) → Along test darts first (now (next .entry)) → Cleared darts (λ t d. test d && ltb t (n .0 + 1)) (now (table .entry)) (now (table .exit))) ⌝ }
 {
     for i in 0..n.0 + 1 {

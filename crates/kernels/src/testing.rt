@@ -5,7 +5,6 @@ use super::strings::in_kernel;
 use super::strings::next_of;
 use answers::Check;
 use answers::Dim;
-use answers::Level;
 use answers::Mark;
 use answers::ROOM;
 use answers::Refusal;
@@ -14,13 +13,13 @@ ghost use mathlib.Core.Path.{_≡_};
 ghost use mathlib.Core.Bool.{true, _&&_, not};
 ghost use Prim.Native.Nat.{ℕ, _<_, _≤_};
 ghost use lib.ListN.{length};
-ghost use lib.Dec.{eqb};
-ghost use Rattle.maps.specs.Mark.{isMark, stay, between as betweenOf, hasBeyond};
+ghost use Rattle.maps.specs.Mark.{isMark, stay, hasBeyond};
 ghost use Rattle.maps.specs.Table.{entry};
 ghost use Rattle.maps.specs.Check.{differs, check9, check10};
 ghost use Rattle.answers.specs.Numbers.{verdictOf};
-ghost use Rattle.kernels.specs.Strings.{kernelRow, Strung};
-ghost use Rattle.kernels.specs.Ready.{mapOf, rowOf, Shape, Place, Tested};
+ghost use Rattle.answers.specs.Rows.{Rows};
+ghost use Rattle.kernels.specs.Strings.{Strung};
+ghost use Rattle.kernels.specs.Ready.{mapOf, rowOf, Place, Tested, leavesBy};
 
 // A dart of a kernel, and its mark there.
 struct Marked {
@@ -39,7 +38,7 @@ fn leaving(
 ) -> bool
     requires { ⌜ Place (kernel .darts) (now table) (j .0) (marked .dart) × (marked .mark .0 < stay) ⌝ }
     requires { ⌜ (entry (kernel .darts) (now table) (j .0) (marked .dart) < length (now lambda)) × (entry (kernel .darts) (now table) (j .0) (marked .dart) < length (now delta)) ⌝ }
-    ensures { λ r. ⌜ r ≡ (not (eqb (j .0) (betweenOf (marked .mark .0) .0)) && not (eqb (rowOf kernel (lambda .entry) (delta .entry) (mapOf kernel (table .entry) (j .0) (marked .dart))) (marked .mark .0))) ⌝ }
+    ensures { λ r. ⌜ r ≡ leavesBy kernel (lambda .entry) (delta .entry) (table .entry) (marked .mark .0) (marked .dart) (j .0) ⌝ }
 {
     let mark = marked.mark;
     let rows = answers::between(mark);
@@ -86,7 +85,7 @@ pub fn whole(
 
 // Number 10 of one dart of this mark, which has a row beyond: does it end at the same place by the mark's second row and then the row beyond it as in the other order?
 fn commuting(n: Dim, darts: usize, table: &[u16], mark: Mark, d: usize) -> bool
-    requires { ⌜ Shape (n .0) darts (now table) × (isMark (n .0) (mark .0) ≡ true) × (d < darts) × (hasBeyond (n .0) (mark .0) ≡ true) ⌝ }
+    requires { ⌜ Rows (n .0) darts (now table) × (isMark (n .0) (mark .0) ≡ true) × (d < darts) × (hasBeyond (n .0) (mark .0) ≡ true) ⌝ }
     requires { ⌜ ((t : ℕ) → t ≤ n .0 → entry darts (now table) t d < darts) ⌝ }
     ensures { λ r. ⌜ not r ≡ (hasBeyond (n .0) (mark .0) && differs (entry darts (now (table .entry))) (λ _. mark .0) d) ⌝ }
 {

@@ -3,14 +3,14 @@ use mathlib.Core.Path.{_≡_}
 use mathlib.Core.Logic.{_⊎_}
 use mathlib.Core.Bool.{Bool, true, false}
 use mathlib.Core.List.{List}
-use Prim.Native.Nat.{ℕ, _≤_, _<_}
+use Prim.Native.Nat.{ℕ, suc, _≤_, _<_}
 use lib.ListN.{getD}
 use Rattle.maps.specs.Map.{Involutions}
 use Rattle.maps.specs.Orbit.{Orbit}
 use Rattle.maps.specs.Table.{entry}
 use Rattle.answers.specs.Rows.{Rows}
 use Rattle.orbits.specs.Choices.{uses}
-use Rattle.orbits.specs.Search.{State, has, Stored, pushed, turns}
+use Rattle.orbits.specs.Search.{State, has, Stored, pushed, spread, turns}
 use Rattle.orbits.specs.declared.Search.{Search}
 
 -- no row used leads out of the set
@@ -34,6 +34,10 @@ pub record Spreads (from : Search) (choice : ℕ) (table : List ℕ) (s : State)
   pub dart : from .dart < from .darts
   pub inside : (j : ℕ) → j ≤ from .n .0 → uses choice j ≡ true → entry (from .darts) table j (from .dart) < from .darts
   pub stored : Stored (from .darts) s
+
+-- the state once the neighbours of a dart by the rows of its choice are in the queue
+abbrev pub spreadBy : Search → ℕ → List ℕ → State → State
+spreadBy from choice table s = spread (entry (from .darts) table) (uses choice) (from .dart) s (suc (from .n .0))
 
 -- the orbit of a dart is added to a set, and nothing else
 pub record Added (a : Involutions) (n : ℕ) (uses : ℕ → ℕ → Bool) (start : ℕ) (old new : ℕ → Bool) : Type 0 where

@@ -3,14 +3,13 @@ use answers::Dim;
 use answers::ROOM;
 ghost use mathlib.Core.Path.{_≡_};
 ghost use mathlib.Core.Bool.{true, false, not};
-ghost use Prim.Native.Nat.{ℕ, suc, _≤_, _<_};
+ghost use Prim.Native.Nat.{ℕ, _<_};
 ghost use lib.Dec.{eqb};
 ghost use Rattle.maps.specs.Parts.{besides};
 ghost use Rattle.maps.specs.Table.{entry};
-ghost use Rattle.answers.specs.Rows.{Rows};
 ghost use Rattle.orbits.specs.Choices.{uses as usesOf, chosen};
-ghost use Rattle.orbits.specs.Search.{has, state, held, Stored, pushed, spread};
-ghost use Rattle.orbits.specs.Orbits.{Ready, Spreads, Finds};
+ghost use Rattle.orbits.specs.Search.{has, state, held, Stored, pushed};
+ghost use Rattle.orbits.specs.Orbits.{Ready, Spreads, spreadBy, Finds};
 
 // The choice of every row, a bit for each.
 pub const ALL_ROWS: u8 = 31;
@@ -70,7 +69,7 @@ fn push_neighbours(
     queue: &mut [u16; ROOM],
 ) -> usize
     requires { ⌜ Spreads from choice (now table) (state (now reached) (now queue) (from .tail)) ⌝ }
-    ensures { λ r. ⌜ held (reached .exit) (queue .exit) r ≡ spread (entry (from .darts) (now (table .entry))) (usesOf choice) (from .dart) (held (reached .entry) (queue .entry) (from .tail)) (suc (from .n .0)) ⌝ }
+    ensures { λ r. ⌜ held (reached .exit) (queue .exit) r ≡ spreadBy from choice (now (table .entry)) (held (reached .entry) (queue .entry) (from .tail)) ⌝ }
 {
     let darts = from.darts;
     let d = from.dart;

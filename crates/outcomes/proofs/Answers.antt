@@ -8,6 +8,7 @@ use Rattle.maps.specs.Read.{Reading as Value, found, none, unless}
 use Rattle.answers.specs.Numbers.{refusalOf, verdictOf, said}
 use Rattle.answers.specs.declared.Level.{Level}
 use Rattle.answers.specs.declared.Dim.{Dim}
+use Rattle.answers.specs.declared.Sizes.{Sizes}
 use Rattle.answers.specs.declared.Refusal.{Refusal}
 use Rattle.answers.specs.declared.Refusal.the-variants.{Dimension, Darts, Height, Length, Strays, NotTwice, NotCommuting, Marks, NotWhole, NotRemovable, NoLevel, NoDart, NoInvolution, NoPass, TooLong, EndsEarly, OtherTag, WrongLength, BytesAfter, Full, TwoToOne, NoRows, Contracted}
 use Rattle.answers.specs.declared.Numbers.{Numbers}
@@ -24,9 +25,9 @@ use Rattle.reading.specs.declared.Total.the-variants.{Counted, Refused as Uncou
 use Rattle.rows.specs.Answers.{verdictOfSurvivors, countOfSurvivors}
 use Rattle.rows.specs.declared.counted.Survivors.{Survivors}
 use Rattle.rows.specs.declared.counted.Survivors.the-variants.{Counted as Ones, Refused as NoWords}
-use Rattle.checking.specs.Answers.{addedOf, heightOf}
-use Rattle.checking.specs.declared.pyramid.Added.{Added}
-use Rattle.checking.specs.declared.pyramid.Added.the-variants.{Grown, Refused as NotAdded}
+use Rattle.checking.specs.Answers.{verdictBy, heightOf}
+use Rattle.checking.specs.declared.pyramid.Height.{Height as Heights}
+use Rattle.checking.specs.declared.pyramid.Height.the-variants.{Now, Refused as Kept}
 use Rattle.taking.specs.Answers.{Outcome, saying, takenOf}
 use Rattle.taking.specs.declared.Taken.{Taken}
 use Rattle.taking.specs.declared.Taken.the-variants.{Record, Refused as NotTaken}
@@ -37,9 +38,6 @@ use Rattle.maps.specs.Decimation.{double}
 use Rattle.decimation.specs.Answers.{Outcome as Shrinking, factorOf}
 use Rattle.decimation.specs.declared.Factor.{Factor}
 use Rattle.decimation.specs.declared.Factor.the-variants.{By, Empty, Refused as NotAnswered}
-use Rattle.joining.specs.Answers.{joinedOf, heightOf as lowerOf}
-use Rattle.joining.specs.declared.Joined.{Joined}
-use Rattle.joining.specs.declared.Joined.the-variants.{Lowered, Refused as NotJoined}
 use Rattle.starting_again.specs.Answers.{Outcome as Rebasing, rebasedOf}
 use Rattle.starting_again.specs.declared.Rebased.{Rebased}
 use Rattle.starting_again.specs.declared.Rebased.the-variants.{Base, Refused as NotRebased}
@@ -143,16 +141,16 @@ pub survivors-told : (s : Survivors) → survivorsFrom (valuesOfSurvivors s) ≡
 survivors-told (Ones count) = refl
 survivors-told (NoWords r) = refusal-told (fromVerdict (Ones 0) NoWords) NoWords (λ k l i d. refl) r
 
--- the answer of an add to a pyramid of height h: verdict and height
-abbrev pub valuesOfAdded : ℕ → Added → Verdict × ℕ
-valuesOfAdded h a = (addedOf a, heightOf h a)
+-- the answer of an add to a pyramid of height h, or of a join in it: verdict and height
+abbrev pub valuesOfHeight : ℕ → Heights → Verdict × ℕ
+valuesOfHeight h x = (verdictBy x, heightOf h x)
 
-abbrev pub addedFrom : Verdict × ℕ → Added
-addedFrom x = fromVerdict (Grown (level (x .1))) NotAdded (x .0)
+abbrev pub heightFrom : Verdict × ℕ → Heights
+heightFrom x = fromVerdict (Now (level (x .1))) Kept (x .0)
 
-pub added-told : (h : ℕ) (a : Added) → addedFrom (valuesOfAdded h a) ≡ a
-added-told h (Grown new) = refl
-added-told h (NotAdded r) = refusal-told (fromVerdict (Grown (level h)) NotAdded) NotAdded (λ k l i d. refl) r
+pub height-told : (h : ℕ) (x : Heights) → heightFrom (valuesOfHeight h x) ≡ x
+height-told h (Now new) = refl
+height-told h (Kept r) = refusal-told (fromVerdict (Now (level h)) Kept) Kept (λ k l i d. refl) r
 
 -- the answer of taking a record
 abbrev pub takenFrom : Outcome → Taken
@@ -179,24 +177,13 @@ factor-told (By factor) = refl
 factor-told Empty = refl
 factor-told (NotAnswered r) = refusal-told (λ v. factorFrom (record { verdict = v; empty = 0; factor = double 0 })) NotAnswered (λ k l i d. refl) r
 
--- the answer of a join in a pyramid of height h: verdict and height
-abbrev pub valuesOfJoined : ℕ → Joined → Verdict × ℕ
-valuesOfJoined h j = (joinedOf j, lowerOf h j)
-
-abbrev pub joinedFrom : Verdict × ℕ → Joined
-joinedFrom x = fromVerdict (Lowered (level (x .1))) NotJoined (x .0)
-
-pub joined-told : (h : ℕ) (j : Joined) → joinedFrom (valuesOfJoined h j) ≡ j
-joined-told h (Lowered new) = refl
-joined-told h (NotJoined r) = refusal-told (fromVerdict (Lowered (level h)) NotJoined) NotJoined (λ k l i d. refl) r
-
 -- the answer of starting again; N and h as given in a refusal
 abbrev pub rebasedFrom : Rebasing → Rebased
 rebasedFrom x = fromVerdict (Base (x .darts) (level (x .height))) NotRebased (x .verdict)
 
-pub rebased-told : (N h : ℕ) (x : Rebased) → rebasedFrom (rebasedOf N h x) ≡ x
-rebased-told N h (Base darts height) = refl
-rebased-told N h (NotRebased r) = refusal-told (λ v. rebasedFrom (record { verdict = v; darts = N; height = h })) NotRebased (λ k l i d. refl) r
+pub rebased-told : (sizes : Sizes) (x : Rebased) → rebasedFrom (rebasedOf sizes x) ≡ x
+rebased-told sizes (Base darts height) = refl
+rebased-told sizes (NotRebased r) = refusal-told (λ v. rebasedFrom (record { verdict = v; darts = sizes .darts; height = sizes .h .0 })) NotRebased (λ k l i d. refl) r
 
 -- the four numbers of a refusal
 abbrev pub numbersFrom : Verdict → Numbers

@@ -4,7 +4,7 @@ use contract.Lifetimes.{Lfts}
 use denote.Ref.{now}
 use Rattle.maps.specs.CheckPyramid.{checkLent}
 use Rattle.maps.specs.Census.{censusLent}
-use Rattle.maps.specs.Folded.{ofParts}
+use Rattle.answers.specs.Pyramid.{lent as lent-to}
 use Rattle.answers.specs.Numbers.{verdictOf, said}
 use Rattle.by_levels.specs.Answers.{valueOf}
 use Rattle.taking.specs.Answers.{takenOf}
@@ -58,7 +58,7 @@ use Rattle.converting.proofs.convert.Reads as convert
 use Rattle.joining.proofs.join.Reads as join
 use Rattle.starting_again.proofs.rebase.Reads as rebase
 use Rattle.outcomes.proofs.One.{OneOutcome, one-outcome, nothing, three, same-three, four, same-four, five, same-five, pair, same-pair}
-use Rattle.outcomes.proofs.Answers.{checkFrom, check-told, readingFrom, reading-told, valuesOfLink, linkFrom, link-told, valuesOfTotal, totalFrom, total-told, valuesOfSurvivors, survivorsFrom, survivors-told, valuesOfAdded, addedFrom, added-told, takenFrom, taken-told, writtenFrom, written-told, factorFrom, factor-told, valuesOfJoined, joinedFrom, joined-told, rebasedFrom, rebased-told, numbersFrom, numbers-told}
+use Rattle.outcomes.proofs.Answers.{checkFrom, check-told, readingFrom, reading-told, valuesOfLink, linkFrom, link-told, valuesOfTotal, totalFrom, total-told, valuesOfSurvivors, survivorsFrom, survivors-told, valuesOfHeight, heightFrom, height-told, takenFrom, taken-told, writtenFrom, written-told, factorFrom, factor-told, rebasedFrom, rebased-told, numbersFrom, numbers-told}
 use Rattle.outcomes.proofs.Cells.{marking-same}
 use Rattle.outcomes.proofs.Partner.{import-same, export-same}
 use Rattle.outcomes.proofs.Regions.{naming-same}
@@ -79,7 +79,7 @@ check-one κs = one-outcome _ _ _ (λ a. verdictOf) checkFrom (λ a. check-told)
 -- Λ, Δ and the table
 pub add-one : (κs : Lfts 5) → OneOutcome (add.Learnt κs) (λ r. r) (λ s. three (now (s .1 .1 .0)) (now (s .1 .1 .1 .0)) (now (s .1 .1 .1 .1 .1 .0)))
 add-one κs =
-    one-outcome _ _ _ (λ a. valuesOfAdded (a .0 .h .0)) addedFrom (λ a. added-told (a .0 .h .0)) _ _ (λ a r s c.
+    one-outcome _ _ _ (λ a. valuesOfHeight (a .0 .h .0)) heightFrom (λ a. height-told (a .0 .h .0)) _ _ (λ a r s c.
     (ap₂ (λ v h. (v, h)) (c .0) (c .1 .0), same-three (c .1 .1 .0) (c .1 .1 .1 .0) (c .1 .1 .1 .1)))
 
 -- the mark row
@@ -139,15 +139,15 @@ pub decimation-one : (κs : Lfts 4) → OneOutcome (decimation.Learnt κs) (λ r
 decimation-one κs = one-outcome _ _ _ (λ a. factorOf) factorFrom (λ a. factor-told) _ _ (λ a r s c. c)
 
 -- the table, the counts and the sums, in arrays
-pub census-one : (κs : Lfts 6) → OneOutcome (census.Learnt κs) (λ r. r) (λ s. three (now (s .1 .1 .1 .1 .1 .1 .0)) (now (s .1 .1 .1 .1 .1 .1 .1 .0)) (now (s .1 .1 .1 .1 .1 .1 .1 .1 .0)))
+pub census-one : (κs : Lfts 6) → OneOutcome (census.Learnt κs) (λ r. r) (λ s. three (now (s .1 .1 .1 .1 .0)) (now (s .1 .1 .1 .1 .1 .0)) (now (s .1 .1 .1 .1 .1 .1 .0)))
 census-one κs a r r′ s s′ c c′ =
-    let w = leaves-one (a .0 .0) (a .1 .0) (a .1 .1 .0 .0) (now (a .1 .1 .1 .0)) (now (a .1 .1 .1 .1 .0)) (now (a .1 .1 .1 .1 .1 .0)) (checkLent (ofParts (a .0 .0) (a .1 .0) (a .1 .1 .0 .0) (now (a .1 .1 .1 .0)) (now (a .1 .1 .1 .1 .0)) (now (a .1 .1 .1 .1 .1 .0))) (now (a .1 .1 .1 .1 .1 .1 .0))) (now (a .1 .1 .1 .1 .1 .1 .1 .0)) (now (a .1 .1 .1 .1 .1 .1 .1 .1 .0)) _ _ _ _ (c .1 .1) (c′ .1 .1) in
+    let w = leaves-one (a .0 .n .0) (a .0 .darts) (a .0 .h .0) (now (a .1 .0)) (now (a .1 .1 .0)) (now (a .1 .1 .1 .0)) (checkLent (lent-to (a .0) (a .1 .0) (a .1 .1 .0) (a .1 .1 .1 .0)) (now (a .1 .1 .1 .1 .0))) (now (a .1 .1 .1 .1 .1 .0)) (now (a .1 .1 .1 .1 .1 .1 .0)) _ _ _ _ (c .1 .1) (c′ .1 .1) in
     (sym (check-told r) ∙ ap checkFrom (c .0 ∙ sym (c′ .0)) ∙ check-told r′, same-three (c .1 .0 ∙ sym (c′ .1 .0)) (w .0) (w .1))
 
 -- and in slices
-pub census-into-one : (κs : Lfts 6) → OneOutcome (census-into.Learnt κs) (λ r. r) (λ s. three (now (s .1 .1 .1 .1 .1 .1 .0)) (now (s .1 .1 .1 .1 .1 .1 .1 .0)) (now (s .1 .1 .1 .1 .1 .1 .1 .1 .0)))
+pub census-into-one : (κs : Lfts 6) → OneOutcome (census-into.Learnt κs) (λ r. r) (λ s. three (now (s .1 .1 .1 .1 .0)) (now (s .1 .1 .1 .1 .1 .0)) (now (s .1 .1 .1 .1 .1 .1 .0)))
 census-into-one κs a r r′ s s′ c c′ =
-    let w = put-leaves-one (a .0 .0) (a .1 .0) (a .1 .1 .0 .0) (now (a .1 .1 .1 .0)) (now (a .1 .1 .1 .1 .0)) (now (a .1 .1 .1 .1 .1 .0)) (censusLent (ofParts (a .0 .0) (a .1 .0) (a .1 .1 .0 .0) (now (a .1 .1 .1 .0)) (now (a .1 .1 .1 .1 .0)) (now (a .1 .1 .1 .1 .1 .0))) (now (a .1 .1 .1 .1 .1 .1 .0)) (now (a .1 .1 .1 .1 .1 .1 .1 .0)) (now (a .1 .1 .1 .1 .1 .1 .1 .1 .0))) (now (a .1 .1 .1 .1 .1 .1 .1 .0)) (now (a .1 .1 .1 .1 .1 .1 .1 .1 .0)) _ _ _ _ (c .1 .1) (c′ .1 .1) in
+    let w = put-leaves-one (a .0 .n .0) (a .0 .darts) (a .0 .h .0) (now (a .1 .0)) (now (a .1 .1 .0)) (now (a .1 .1 .1 .0)) (censusLent (lent-to (a .0) (a .1 .0) (a .1 .1 .0) (a .1 .1 .1 .0)) (now (a .1 .1 .1 .1 .0)) (now (a .1 .1 .1 .1 .1 .0)) (now (a .1 .1 .1 .1 .1 .1 .0))) (now (a .1 .1 .1 .1 .1 .0)) (now (a .1 .1 .1 .1 .1 .1 .0)) _ _ _ _ (c .1 .1) (c′ .1 .1) in
     (sym (check-told r) ∙ ap checkFrom (c .0 ∙ sym (c′ .0)) ∙ check-told r′, same-three (c .1 .0 ∙ sym (c′ .1 .0)) (w .0) (w .1))
 
 -- the base rows, which are those that the two rows yield
@@ -173,14 +173,14 @@ convert-one κs =
     (c .0, same-five (c .1 .0) (c .1 .1 .0) (c .1 .1 .1 .0) (c .1 .1 .1 .1 .0) (c .1 .1 .1 .1 .1)))
 
 -- Λ and the table
-pub join-one : (κs : Lfts 4) → OneOutcome (join.Learnt κs) (λ r. r) (λ s. pair (now (s .1 .1 .1 .1 .0)) (now (s .1 .1 .1 .1 .1 .1 .0)))
+pub join-one : (κs : Lfts 4) → OneOutcome (join.Learnt κs) (λ r. r) (λ s. pair (now (s .1 .1 .0)) (now (s .1 .1 .1 .1 .0)))
 join-one κs =
-    one-outcome _ _ _ (λ a. valuesOfJoined (a .1 .1 .0 .0)) joinedFrom (λ a. joined-told (a .1 .1 .0 .0)) _ _ (λ a r s c.
+    one-outcome _ _ _ (λ a. valuesOfHeight (a .0 .h .0)) heightFrom (λ a. height-told (a .0 .h .0)) _ _ (λ a r s c.
     (ap₂ (λ v h. (v, h)) (c .0) (c .1 .0), same-pair (c .1 .1 .0) (c .1 .1 .1)))
 
 -- rows, Λ, Δ, the table and the old numbers
-pub rebase-one : (κs : Lfts 5) → OneOutcome (rebase.Learnt κs) (λ r. r) (λ s. five (now (s .1 .1 .1 .0)) (now (s .1 .1 .1 .1 .0)) (now (s .1 .1 .1 .1 .1 .0)) (now (s .1 .1 .1 .1 .1 .1 .0)) (now (s .1 .1 .1 .1 .1 .1 .1 .1 .0)))
-rebase-one κs = one-outcome _ _ _ (λ a. rebasedOf (a .1 .0) (a .1 .1 .0 .0)) rebasedFrom (λ a. rebased-told (a .1 .0) (a .1 .1 .0 .0)) _ _ (λ a r s c. (c .0, same-five (c .1 .0) (c .1 .1 .0) (c .1 .1 .1 .0) (c .1 .1 .1 .1 .0) (c .1 .1 .1 .1 .1)))
+pub rebase-one : (κs : Lfts 5) → OneOutcome (rebase.Learnt κs) (λ r. r) (λ s. five (now (s .1 .0)) (now (s .1 .1 .0)) (now (s .1 .1 .1 .0)) (now (s .1 .1 .1 .1 .0)) (now (s .1 .1 .1 .1 .1 .0)))
+rebase-one κs = one-outcome _ _ _ (λ a. rebasedOf (a .0 .sizes)) rebasedFrom (λ a. rebased-told (a .0 .sizes)) _ _ (λ a r s c. (c .0, same-five (c .1 .0) (c .1 .1 .0) (c .1 .1 .1 .0) (c .1 .1 .1 .1 .0) (c .1 .1 .1 .1 .1)))
 
 -- what jobs share
 pub in-range-one : (κs : Lfts 0) → OneOutcome (in-range.Learnt κs) (λ r. r) nothing

@@ -28,7 +28,7 @@ use Rattle.starting_again.proofs.Tests.{passed}
 module _ (n N h : ℕ) (rows lambda delta table : List ℕ) (l : ℕ) (old : List ℕ) where
   -- the answer, and what is left in rows, Λ, Δ and the row of old numbers
   pub record Answers (o : Outcome) (rows′ lambda′ delta′ old′ : List ℕ) : Type 0 where
-    pub outcome : o ≡ rebasing n N h rows lambda delta table l old
+    pub outcome : o ≡ rebasing (ofParts n N h rows lambda delta) table l old
     pub rows-left : rows′ ≡ rebaseRows (ofParts n N h rows lambda delta) table l old
     pub lambda-left : lambda′ ≡ rebaseLambda (ofParts n N h rows lambda delta) table l old
     pub delta-left : delta′ ≡ rebaseDelta (ofParts n N h rows lambda delta) table l old

@@ -3,8 +3,9 @@ use mathlib.Core.List.{List}
 use Prim.Native.Nat.{ℕ}
 use Rattle.maps.specs.Verdict.{Verdict, accepted}
 use Rattle.maps.specs.Rebase.{rebaseLent, rebaseDarts, rebaseHeight}
-use Rattle.maps.specs.Folded.{ofParts}
+use Rattle.maps.specs.Folded.{Folded}
 use Rattle.answers.specs.Numbers.{refusalOf}
+use Rattle.answers.specs.declared.Sizes.{Sizes}
 use Rattle.starting_again.specs.declared.Rebased.{Rebased}
 use Rattle.starting_again.specs.declared.Rebased.the-variants.{Base, Refused}
 
@@ -15,14 +16,10 @@ pub record Outcome : Type 0 where
   pub height : ℕ
 
 -- number, darts and height for each answer; N and h as given where refused
-abbrev pub rebasedOf : ℕ → ℕ → Rebased → Outcome
-rebasedOf N h (Base darts height) = record { verdict = accepted; darts = darts; height = height .0 }
-rebasedOf N h (Refused r) = record { verdict = refusalOf r; darts = N; height = h }
+abbrev pub rebasedOf : Sizes → Rebased → Outcome
+rebasedOf sizes (Base darts height) = record { verdict = accepted; darts = darts; height = height .0 }
+rebasedOf sizes (Refused r) = record { verdict = refusalOf r; darts = sizes .darts; height = sizes .h .0 }
 
 -- what starting again answers
-abbrev pub rebasing : ℕ → ℕ → ℕ → List ℕ → List ℕ → List ℕ → List ℕ → ℕ → List ℕ → Outcome
-rebasing n N h rows lambda delta table l old = record {
-  verdict = rebaseLent (ofParts n N h rows lambda delta) table l old;
-  darts = rebaseDarts (ofParts n N h rows lambda delta) table l old;
-  height = rebaseHeight (ofParts n N h rows lambda delta) table l old;
-}
+abbrev pub rebasing : Folded → List ℕ → ℕ → List ℕ → Outcome
+rebasing f table l old = record { verdict = rebaseLent f table l old; darts = rebaseDarts f table l old; height = rebaseHeight f table l old }

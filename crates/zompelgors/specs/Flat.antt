@@ -3,20 +3,18 @@ use mathlib.Core.Path.{_≡_}
 use mathlib.Core.Bool.{cond}
 use mathlib.Core.List.{List}
 use Prim.Native.Nat.{ℕ, _+_, _*_}
-use lib.IntN.{ℤ}
 use lib.Dec.{eqb}
-use denote.Ref.{RefT, now}
+use denote.Ref.{RefT}
 use Rattle.maps.specs.Verdict.{Verdict, accepted, refused, ifAccepted}
 use Rattle.maps.specs.Folded.{Folded}
 use Rattle.maps.specs.AddLevel.{addLent, addHeight}
 use Rattle.maps.specs.Read.{Reading, found, none, readLent, readSince}
 use Rattle.maps.specs.Unfold.{unfoldLent, unfoldTotal, unfoldSince}
 use Rattle.maps.specs.Join.{joinLent, joinHeight}
-use Rattle.maps.specs.Census.{censusLent, CensusPutLeaves}
-use Rattle.maps.specs.Partner.{importLent, ImportLeaves, exportLent, Exports}
 use Rattle.taking.specs.Answers.{Outcome}
 use Rattle.writing.specs.Answers.{Outcome as Writing}
 use Rattle.decimation.specs.Answers.{Outcome as Shrinking}
+use Rattle.combinatorial.specs.Left.{ExportLeft}
 use Rattle.starting_again.specs.Answers.{Outcome as Rebasing}
 use Rattle.zompelgors.specs.declared.ZgRefusal.{ZgRefusal}
 use Rattle.zompelgors.specs.declared.ZgReading.{ZgReading}
@@ -97,18 +95,10 @@ readFor f l i d = linkFor (readLent f l i d) (readSince f l i d)
 abbrev pub unfoldFor : Folded → ℕ → List ℕ → ZgUnfolding
 unfoldFor f l table = unfoldingFor (unfoldLent f l table) (unfoldTotal f l table) (unfoldSince f l table)
 
--- what a census leaves in counts and sums, from those found
-abbrev pub CensusFor : Folded → RefT (List ℕ) → RefT (List ℕ) → RefT (List ℤ) → RefT (List ℕ) → RefT (List ℤ) → Type 0
-CensusFor f table oldCells oldSums cells sums = CensusPutLeaves f (censusLent f (now table) (now oldCells) (now oldSums)) (now oldCells) (now oldSums) (now cells) (now sums)
-
--- what bringing in a map leaves in the rows, from those found
-abbrev pub ImportFor : ℕ → RefT (List ℕ) → RefT (List ℕ) → RefT (List ℕ) → RefT (List ℕ) → Type 0
-ImportFor m edges vertices oldRows rows = ImportLeaves m (now edges) (now vertices) (now oldRows) (importLent m (now edges) (now vertices) (now oldRows)) (now rows)
-
 -- what taking it back answers, and leaves in the two rows, from those found
 abbrev pub ExportFor : ℕ → ℕ → RefT (List ℕ) → RefT (List ℕ) → RefT (List ℕ) → ZgRefusal → RefT (List ℕ) → RefT (List ℕ) → Type 0
 ExportFor n N rows oldEdges oldVertices r edges vertices =
-    (answer : Verdict) × (r ≡ refusalFor answer) × Exports (now rows) (now oldEdges) (now oldVertices) (exportLent n N (now rows) (now oldEdges) (now oldVertices)) answer (now edges) (now vertices)
+    (answer : Verdict) × (r ≡ refusalFor answer) × ExportLeft n N rows oldEdges oldVertices answer edges vertices
 
 -- a version in one number: a byte each for the two smaller parts
 abbrev pub versionFor : ℕ → ℕ → ℕ → ℕ

@@ -1,11 +1,11 @@
 // The C interface of the jobs: pointers with lengths, structs by value. Assumes nothing of a caller beyond pointers that are good for the lengths given.
+use answers::AtLevel;
 use answers::Check;
 use answers::Dim;
 use answers::Level;
 use answers::Question;
 use answers::Refusal;
 use answers::Sizes;
-use counting::census_into;
 ghost use mathlib.Core.Path.{_≡_};
 ghost use Prim.Native.Nat.{_*_, _≤_};
 ghost use mathlib.Core.Bool.{cond};
@@ -29,16 +29,17 @@ ghost use Rattle.maps.specs.Join.{joinLambda, joinLeaves};
 ghost use Rattle.maps.specs.Rebase.{rebaseRows, rebaseLambda, rebaseDelta, rebaseOld, rebaseTable};
 ghost use Rattle.answers.specs.Numbers.{refusalOf, verdictOf};
 ghost use Rattle.answers.specs.Pyramid.{given};
-ghost use Rattle.checking.specs.Answers.{addedOf, heightOf};
+ghost use Rattle.checking.specs.Answers.{verdictBy, heightOf};
 ghost use Rattle.by_levels.specs.Answers.{valueOf};
 ghost use Rattle.reading.specs.Answers.{valueOf as linkOf, standsSince, checkOf, totalOf, latestOf};
 ghost use Rattle.rows.specs.Answers.{verdictOfSurvivors, countOfSurvivors};
 ghost use Rattle.taking.specs.Answers.{takenOf, taken};
 ghost use Rattle.writing.specs.Answers.{writtenOf, writing};
 ghost use Rattle.decimation.specs.Answers.{factorOf, decimating};
-ghost use Rattle.joining.specs.Answers.{joinedOf, heightOf as lowerOf};
+ghost use Rattle.counting.specs.Left.{CensusPutLeft};
+ghost use Rattle.combinatorial.specs.Left.{ImportLeft};
 ghost use Rattle.starting_again.specs.Answers.{rebasedOf, rebasing};
-ghost use Rattle.zompelgors.specs.Flat.{refusalFor, saidBy, readingFor, linkFor, countFor, unfoldingFor, heightFor, partFor, recordFor, writtenFor, factorFor, baseFor, addFor, joinFor, readFor, unfoldFor, CensusFor, ImportFor, ExportFor, versionFor};
+ghost use Rattle.zompelgors.specs.Flat.{refusalFor, saidBy, readingFor, linkFor, countFor, unfoldingFor, heightFor, partFor, recordFor, writtenFor, factorFor, baseFor, addFor, joinFor, readFor, unfoldFor, ExportFor, versionFor};
 
 // The document's number and values; all 0 where accepted.
 #[repr(C)]
@@ -155,17 +156,17 @@ fn refused(refusal: Refusal) -> ZgRefusal
 }
 
 // The answer of a check.
-fn checked_as(check: Check) -> ZgRefusal
-    ensures { λ r. ⌜ r ≡ refusalFor (verdictOf check) ⌝ }
+fn refusal_as(answer: Check) -> ZgRefusal
+    ensures { λ r. ⌜ r ≡ refusalFor (verdictOf answer) ⌝ }
 {
-    match check {
+    match answer {
         Check::Accepted => accepts(),
-        Check::Refused(r) => refused(r),
+        Check::Refused(why) => refused(why),
     }
 }
 
 // The answer of a reading by levels.
-fn read_as(answer: by_levels::Answered) -> ZgReading
+fn reading_as(answer: by_levels::Answered) -> ZgReading
     ensures { λ r. ⌜ r ≡ readingFor (valueOf answer) ⌝ }
 {
     match answer {
@@ -189,7 +190,7 @@ fn read_as(answer: by_levels::Answered) -> ZgReading
 }
 
 // The answer of a direct reading.
-fn linked_as(answer: reading::Reading) -> ZgLink
+fn link_as(answer: reading::Reading) -> ZgLink
     ensures { λ r. ⌜ r ≡ linkFor (linkOf answer) (standsSince answer) ⌝ }
 {
     match answer {
@@ -215,10 +216,10 @@ fn linked_as(answer: reading::Reading) -> ZgLink
 }
 
 // The answer of an unfolding.
-fn unfolded_as(total: reading::Total) -> ZgUnfolding
-    ensures { λ r. ⌜ r ≡ unfoldingFor (checkOf total) (totalOf total) (latestOf total) ⌝ }
+fn unfolding_as(answer: reading::Total) -> ZgUnfolding
+    ensures { λ r. ⌜ r ≡ unfoldingFor (checkOf answer) (totalOf answer) (latestOf answer) ⌝ }
 {
-    match total {
+    match answer {
         reading::Total::Counted(all) => {
             let refusal = accepts();
             ZgUnfolding {
@@ -239,7 +240,7 @@ fn unfolded_as(total: reading::Total) -> ZgUnfolding
 }
 
 // The answer of the survivor words.
-fn counted_as(answer: rows::Survivors) -> ZgCount
+fn count_as(answer: rows::Survivors) -> ZgCount
     ensures { λ r. ⌜ r ≡ countFor (verdictOfSurvivors answer) (countOfSurvivors answer) ⌝ }
 {
     match answer {
@@ -254,45 +255,23 @@ fn counted_as(answer: rows::Survivors) -> ZgCount
     }
 }
 
-// The answer of an add, where h was the height.
-fn added_as(h: Level, answer: checking::Added) -> ZgHeight
-    ensures { λ r. ⌜ r ≡ heightFor (addedOf answer) (heightOf (h .0) answer) ⌝ }
+// The answer of an add or a join, where h was the height.
+fn height_as(h: Level, answer: checking::Height) -> ZgHeight
+    ensures { λ r. ⌜ r ≡ heightFor (verdictBy answer) (heightOf (h .0) answer) ⌝ }
 {
     match answer {
-        checking::Added::Grown(new) => {
+        checking::Height::Now(new) => {
             let refusal = accepts();
             ZgHeight {
                 refusal,
                 height: new.0,
             }
         },
-        checking::Added::Refused(why) => {
+        checking::Height::Refused(why) => {
             let refusal = refused(why);
             ZgHeight {
                 refusal,
                 height: h.0,
-            }
-        },
-    }
-}
-
-// The answer of a join, where this was the height.
-fn joined_as(height: Level, answer: joining::Joined) -> ZgHeight
-    ensures { λ r. ⌜ r ≡ heightFor (joinedOf answer) (lowerOf (height .0) answer) ⌝ }
-{
-    match answer {
-        joining::Joined::Lowered(new) => {
-            let refusal = accepts();
-            ZgHeight {
-                refusal,
-                height: new.0,
-            }
-        },
-        joining::Joined::Refused(why) => {
-            let refusal = refused(why);
-            ZgHeight {
-                refusal,
-                height: height.0,
             }
         },
     }
@@ -309,11 +288,11 @@ fn is_unfolded(level: Level) -> u8
 }
 
 // The place of a row, or why it is refused.
-fn part_as(check: Check, darts: u16, level: Level, involution: Dim) -> ZgPart
-    requires { ⌜ (verdictOf check ≡ accepted → involution .0 * darts ≤ 16384) ⌝ }
-    ensures { λ r. ⌜ r ≡ partFor (verdictOf check) darts (level .0) (involution .0) ⌝ }
+fn part_as(darts: u16, level: Level, involution: Dim, answer: Check) -> ZgPart
+    requires { ⌜ (verdictOf answer ≡ accepted → involution .0 * darts ≤ 16384) ⌝ }
+    ensures { λ r. ⌜ r ≡ partFor (verdictOf answer) darts (level .0) (involution .0) ⌝ }
 {
-    match check {
+    match answer {
         Check::Accepted => {
             let refusal = accepts();
             let unfolded = is_unfolded(level);
@@ -338,7 +317,7 @@ fn part_as(check: Check, darts: u16, level: Level, involution: Dim) -> ZgPart
 }
 
 // The answer of taking a record.
-fn taken_as(answer: taking::Taken) -> ZgRecord
+fn record_as(answer: taking::Taken) -> ZgRecord
     ensures { λ r. ⌜ r ≡ recordFor (takenOf answer) ⌝ }
 {
     match answer {
@@ -413,9 +392,9 @@ fn factor_as(answer: decimation::Factor) -> ZgFactor
     }
 }
 
-// The answer of starting again.
-fn based_as(darts: u16, h: Level, answer: starting_again::Rebased) -> ZgBase
-    ensures { λ r. ⌜ r ≡ baseFor (rebasedOf darts (h .0) answer) ⌝ }
+// The answer of starting again, where these were the sizes.
+fn base_as(sizes: Sizes, answer: starting_again::Rebased) -> ZgBase
+    ensures { λ r. ⌜ r ≡ baseFor (rebasedOf sizes answer) ⌝ }
 {
     match answer {
         starting_again::Rebased::Base(fewer, height) => {
@@ -430,8 +409,8 @@ fn based_as(darts: u16, h: Level, answer: starting_again::Rebased) -> ZgBase
             let refusal = refused(why);
             ZgBase {
                 refusal,
-                darts,
-                h: h.0,
+                darts: sizes.darts,
+                h: sizes.h.0,
             }
         },
     }
@@ -457,7 +436,7 @@ pub extern "C" fn zg_version() -> u32
 pub extern "C" fn zg_check_base(n: u8, darts: u16, rows: &[u16]) -> ZgRefusal
     ensures { λ r. ⌜ r ≡ refusalFor (checkBase n darts (now (rows .entry))) ⌝ }
 {
-    checked_as(bases::check_base(Dim(n), darts, rows))
+    refusal_as(bases::check_base(Dim(n), darts, rows))
 }
 
 // Checks a whole pyramid.
@@ -479,7 +458,7 @@ pub extern "C" fn zg_check(
         h: Level(h),
         darts,
     };
-    checked_as(checking::check(sizes, rows, lambda, delta, table))
+    refusal_as(checking::check(sizes, rows, lambda, delta, table))
 }
 
 // Adds a level on top.
@@ -504,7 +483,7 @@ pub extern "C" fn zg_add(
         h: Level(h),
         darts,
     };
-    added_as(
+    height_as(
         Level(h),
         checking::add(sizes, rows, lambda, delta, marks, table),
     )
@@ -529,7 +508,7 @@ pub extern "C" fn zg_marks_of(
         h: Level(h),
         darts,
     };
-    checked_as(rows::marks_of(sizes, lambda, delta, Level(level), marks))
+    refusal_as(rows::marks_of(sizes, lambda, delta, Level(level), marks))
 }
 
 // Reads one neighbour on a level by the direct walk, and since which level the link stands.
@@ -552,7 +531,7 @@ pub extern "C" fn zg_read(
         h: Level(h),
         darts,
     };
-    linked_as(reading::read(
+    link_as(reading::read(
         sizes,
         rows,
         lambda,
@@ -585,7 +564,7 @@ pub extern "C" fn zg_read_by_levels(
         h: Level(h),
         darts,
     };
-    read_as(by_levels::read_by_levels(
+    reading_as(by_levels::read_by_levels(
         sizes,
         rows,
         lambda,
@@ -618,7 +597,7 @@ pub extern "C" fn zg_unfold(
         h: Level(h),
         darts,
     };
-    unfolded_as(reading::unfold(sizes, rows, lambda, delta, Level(level), table))
+    unfolding_as(reading::unfold(sizes, rows, lambda, delta, Level(level), table))
 }
 
 // Says where a row of a level lies.
@@ -640,10 +619,10 @@ pub extern "C" fn zg_row(
         darts,
     };
     part_as(
-        rows::row_refusal(sizes, base, unfolded, Level(level), Dim(involution)),
         darts,
         Level(level),
         Dim(involution),
+        rows::row_refusal(sizes, base, unfolded, Level(level), Dim(involution)),
     )
 }
 
@@ -659,7 +638,7 @@ pub extern "C" fn zg_survivors(
     ensures answer { λ r. ⌜ r ≡ countFor (survivorsLent darts h (now (lambda .entry)) level (now (words .entry))) (survivorCount darts h (now (lambda .entry)) level (now (words .entry))) ⌝ }
     ensures words_left { λ _. ⌜ now (words .exit) ≡ survivorWords darts h (now (lambda .entry)) level (now (words .entry)) ⌝ }
 {
-    counted_as(rows::survivors(darts, Level(h), lambda, Level(level), words))
+    count_as(rows::survivors(darts, Level(h), lambda, Level(level), words))
 }
 
 // Marks cells of one dimension on an explicit level: those that are removable and fall into two parts, but for one of each piece that would vanish.
@@ -674,7 +653,7 @@ pub extern "C" fn zg_mark_cells(
     ensures answer { λ r. ⌜ r ≡ refusalFor (markLent n darts (now (table .entry)) dimension (now (marks .entry))) ⌝ }
     ensures marks_left { λ _. ⌜ MarkLeaves n darts (now (table .entry)) dimension (now (marks .entry)) (markLent n darts (now (table .entry)) dimension (now (marks .entry))) (now (marks .exit)) ⌝ }
 {
-    checked_as(cells::mark_cells(Dim(n), darts, table, Dim(dimension), marks))
+    refusal_as(cells::mark_cells(Dim(n), darts, table, Dim(dimension), marks))
 }
 
 // Takes a record into lent memory and checks its pyramid; after 5 to 10 rows and marks hold what the record said.
@@ -692,7 +671,7 @@ pub extern "C" fn zg_take(
     ensures delta_left { λ _. ⌜ now (delta .exit) ≡ takeDelta (now (bytes .entry)) wide (now (rows .entry)) (now (lambda .entry)) (now (delta .entry)) (now (table .entry)) ⌝ }
     ensures table_left { λ _. ⌜ now (table .exit) ≡ takeTable (now (bytes .entry)) wide (now (rows .entry)) (now (lambda .entry)) (now (delta .entry)) (now (table .entry)) ⌝ }
 {
-    taken_as(taking::take(bytes, rows, lambda, delta, table))
+    record_as(taking::take(bytes, rows, lambda, delta, table))
 }
 
 // Writes the record of an accepted pyramid into a lent buffer; the table is left as the check leaves it.
@@ -757,28 +736,23 @@ pub extern "C" fn zg_census(
 ) -> ZgRefusal
     ensures answer { λ r. ⌜ r ≡ refusalFor (censusLent (given n darts h (rows .entry) (lambda .entry) (delta .entry)) (now (table .entry)) (now (cells .entry)) (now (sums .entry))) ⌝ }
     ensures table_left { λ _. ⌜ now (table .exit) ≡ censusTable (given n darts h (rows .entry) (lambda .entry) (delta .entry)) (now (table .entry)) (now (cells .entry)) (now (sums .entry)) ⌝ }
-    ensures counts_left { λ _. ⌜ CensusFor (given n darts h (rows .entry) (lambda .entry) (delta .entry)) (table .entry) (cells .entry) (sums .entry) (cells .exit) (sums .exit) ⌝ }
+    ensures counts_left { λ _. ⌜ CensusPutLeft (given n darts h (rows .entry) (lambda .entry) (delta .entry)) (table .entry) (cells .entry) (sums .entry) (cells .exit) (sums .exit) ⌝ }
 {
-    checked_as(census_into(
-        Dim(n),
+    let sizes = Sizes {
+        n: Dim(n),
+        h: Level(h),
         darts,
-        Level(h),
-        rows,
-        lambda,
-        delta,
-        table,
-        cells,
-        sums,
-    ))
+    };
+    refusal_as(counting::census_into(sizes, rows, lambda, delta, table, cells, sums))
 }
 
 // Brings in a 2D combinatorial map of m darts as the rows of a base of 2m darts.
 #[no_mangle]
 pub extern "C" fn zg_import(m: u16, edges: &[u16], vertices: &[u16], rows: &mut [u16]) -> ZgRefusal
     ensures answer { λ r. ⌜ r ≡ refusalFor (importLent m (now (edges .entry)) (now (vertices .entry)) (now (rows .entry))) ⌝ }
-    ensures rows_left { λ _. ⌜ ImportFor m (edges .entry) (vertices .entry) (rows .entry) (rows .exit) ⌝ }
+    ensures rows_left { λ _. ⌜ ImportLeft m (edges .entry) (vertices .entry) (rows .entry) (rows .exit) ⌝ }
 {
-    checked_as(combinatorial::import(m, edges, vertices, rows))
+    refusal_as(combinatorial::import(m, edges, vertices, rows))
 }
 
 // Takes a base back to the two rows that yield it.
@@ -792,7 +766,7 @@ pub extern "C" fn zg_export(
 ) -> ZgRefusal
     ensures { λ r. ⌜ ExportFor n darts (rows .entry) (edges .entry) (vertices .entry) r (edges .exit) (vertices .exit) ⌝ }
 {
-    checked_as(combinatorial::export(Dim(n), darts, rows, edges, vertices))
+    refusal_as(combinatorial::export(Dim(n), darts, rows, edges, vertices))
 }
 
 // Joins the kernels of a level and the next of an accepted pyramid; Λ and the height fall.
@@ -811,17 +785,15 @@ pub extern "C" fn zg_join(
     ensures lambda_left { λ _. ⌜ now (lambda .exit) ≡ joinLambda (given n darts h (rows .entry) (lambda .entry) (delta .entry)) (now (table .entry)) level ⌝ }
     ensures table_left { λ _. ⌜ now (table .exit) ≡ joinLeaves (given n darts h (rows .entry) (lambda .entry) (delta .entry)) (now (table .entry)) level ⌝ }
 {
-    let answer = joining::join(
-        Dim(n),
+    let sizes = Sizes {
+        n: Dim(n),
+        h: Level(h),
         darts,
+    };
+    height_as(
         Level(h),
-        rows,
-        lambda,
-        delta,
-        table,
-        Level(level),
-    );
-    joined_as(Level(h), answer)
+        joining::join(sizes, rows, lambda, delta, table, Level(level)),
+    )
 }
 
 // Starts again from a level of an accepted pyramid; the table is left as the check leaves it.
@@ -837,26 +809,21 @@ pub extern "C" fn zg_rebase(
     level: u8,
     old: &mut [u16],
 ) -> ZgBase
-    ensures answer { λ r. ⌜ r ≡ baseFor (rebasing n darts h (now (rows .entry)) (now (lambda .entry)) (now (delta .entry)) (now (table .entry)) level (now (old .entry))) ⌝ }
+    ensures answer { λ r. ⌜ r ≡ baseFor (rebasing (given n darts h (rows .entry) (lambda .entry) (delta .entry)) (now (table .entry)) level (now (old .entry))) ⌝ }
     ensures rows_left { λ _. ⌜ now (rows .exit) ≡ rebaseRows (given n darts h (rows .entry) (lambda .entry) (delta .entry)) (now (table .entry)) level (now (old .entry)) ⌝ }
     ensures lambda_left { λ _. ⌜ now (lambda .exit) ≡ rebaseLambda (given n darts h (rows .entry) (lambda .entry) (delta .entry)) (now (table .entry)) level (now (old .entry)) ⌝ }
     ensures delta_left { λ _. ⌜ now (delta .exit) ≡ rebaseDelta (given n darts h (rows .entry) (lambda .entry) (delta .entry)) (now (table .entry)) level (now (old .entry)) ⌝ }
     ensures table_left { λ _. ⌜ now (table .exit) ≡ rebaseTable (given n darts h (rows .entry) (lambda .entry) (delta .entry)) (now (table .entry)) level (now (old .entry)) ⌝ }
     ensures old_left { λ _. ⌜ now (old .exit) ≡ rebaseOld (given n darts h (rows .entry) (lambda .entry) (delta .entry)) (now (table .entry)) level (now (old .entry)) ⌝ }
 {
-    based_as(
+    let sizes = Sizes {
+        n: Dim(n),
+        h: Level(h),
         darts,
-        Level(h),
-        starting_again::rebase(
-            Dim(n),
-            darts,
-            Level(h),
-            rows,
-            lambda,
-            delta,
-            table,
-            Level(level),
-            old,
-        ),
-    )
+    };
+    let at = AtLevel {
+        sizes,
+        level: Level(level),
+    };
+    base_as(sizes, starting_again::rebase(at, rows, lambda, delta, table, old))
 }

@@ -21,10 +21,10 @@ pub struct ZgRefusal {
 }
 
 // The answer of a check.
-fn flat(check: Check) -> ZgRefusal
-    ensures { λ r. ⌜ r ≡ refusalFor (verdictOf check) ⌝ }
+fn refusal_as(answer: Check) -> ZgRefusal
+    ensures { λ r. ⌜ r ≡ refusalFor (verdictOf answer) ⌝ }
 {
-    match check {
+    match answer {
         Check::Accepted => ZgRefusal {
             number: 0,
             level: 0,
@@ -69,5 +69,5 @@ pub extern "C" fn zg_regions(
         sizes,
         level: Level(level),
     };
-    flat(regions::name_regions(at, rows, lambda, delta, table, names))
+    refusal_as(regions::name_regions(at, rows, lambda, delta, table, names))
 }

@@ -62,7 +62,7 @@ not-commuting-requires c κs =
     let d = c .before .loop2 .d in
     let row : (k : ℕ) → k ≤ a .n .0 → Row (a .darts) (now (a .table)) k = λ k l. rows-row (a .n .0) (a .darts) k (now (a .table)) (p .0) l in
     let dart : (k : ℕ) → k ≤ a .n .0 → presentIf (a .explicit) (a .darts) (now (a .table)) d ≡ true → entry (a .darts) (now (a .table)) k d < a .darts = λ k l. inside (a .explicit) (a .n .0) (a .darts) (now (a .table)) (p .1) k d l (c .loop2-test .taken) in
-    (row 0 zero-le, row i (omega arith), row j (omega arith), omega arith, c .loop2-test .taken, λ h. (dart i (omega arith) h, dart j (omega arith) h))
+    record { row-0 = row 0 zero-le; row-i = row i (omega arith); row-j = row j (omega arith); apart = omega arith; dart = c .loop2-test .taken; leads = λ h. (dart i (omega arith) h, dart j (omega arith) h) }
 
 add-d : tie.Need-add-d Inv-loop2 μ-loop2 Inv-loop μ-loop Inv-rows μ-rows
 add-d c = search needs

@@ -6,13 +6,13 @@ use Rattle.facts.proofs.ExactJobs.{check-accepts}
 use Rattle.answers.proofs.Refusals.{told}
 use Rattle.census.proofs.print_census.Statement.{statement}
 use Rattle.census.proofs.print_census.Tie as tie
-use Rattle.answers.specs.Pyramid.{given}
+use Rattle.answers.specs.Pyramid.{lent}
 
 all-levels-requires : tie.Need-all-levels-requires
 all-levels-requires c κs =
     let k = c .before .before .before .before in
     let a = k .before .before .before .before .before .before .before .before .args in
-    let p = check-accepts (given (a .n .0) (a .darts) (a .h .0) (a .rows) (a .lambda) (a .delta)) (now (a .table)) (sym (told (k .census .ensures .0) (c .enum-told .given .1))) in
+    let p = check-accepts (lent (a .sizes) (a .rows) (a .lambda) (a .delta)) (now (a .table)) (sym (told (k .census .ensures .0) (c .enum-told .given .1))) in
     (p .dimension .1, p .height)
 
 pub print-census-spec : {M : Type 1} → statement M

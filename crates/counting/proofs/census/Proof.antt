@@ -4,7 +4,7 @@ use denote.Ref.{now}
 use borrow.Author.Needs.{needs}
 use Rattle.maps.specs.Verdict.{accepted}
 use Rattle.maps.specs.CheckPyramid.{checkLent}
-use Rattle.answers.specs.Pyramid.{given}
+use Rattle.answers.specs.Pyramid.{lent}
 use Rattle.answers.proofs.Refusals.{told}
 use Rattle.counting.proofs.Whole.{counted-few, census-refused, left-accepted, left-table, census-left}
 use Rattle.counting.proofs.census.Statement.{statement}
@@ -19,7 +19,7 @@ abbrev checked : tie.After-enum-told → tie.After-check
 checked c = c .before .before .before .before
 
 -- it has accepted
-fine : (c : tie.After-enum-told) → let a = start (checked c) .args in accepted ≡ checkLent (given (a .n .0) (a .darts) (a .h .0) (a .rows) (a .lambda) (a .delta)) (now (a .table))
+fine : (c : tie.After-enum-told) → let a = start (checked c) .args in accepted ≡ checkLent (lent (a .sizes) (a .rows) (a .lambda) (a .delta)) (now (a .table))
 fine c = told (checked c .check .ensures .0) (c .enum-told .given .1)
 
 returns : tie.Need-returns
@@ -28,14 +28,14 @@ returns c =
     let a = start k .args in
     let r = c .before .r .given in
     let e = told (k .check .ensures .0) (r .1) in
-    (e, (k .check .ensures .1, census-refused (a .n .0) (a .darts) (a .h .0) (now (a .rows)) (now (a .lambda)) (now (a .delta)) (now (a .table)) (now (a .cells)) (now (a .sums)) (r .0 .0) e))
+    (e, (k .check .ensures .1, census-refused (a .sizes .n .0) (a .sizes .darts) (a .sizes .h .0) (now (a .rows)) (now (a .lambda)) (now (a .delta)) (now (a .table)) (now (a .cells)) (now (a .sums)) (r .0 .0) e))
 
 count-levels-requires : tie.Need-count-levels-requires
 count-levels-requires c κs =
     let e = c .before in
     let k = checked e in
     let a = start k .args in
-    left-accepted (a .n .0) (a .darts) (a .h .0) (now (a .rows)) (now (a .lambda)) (now (a .delta)) (now (a .table)) (now (a .cells)) (now (a .sums)) (fine e) _ (k .check .ensures .1)
+    left-accepted (a .sizes .n .0) (a .sizes .darts) (a .sizes .h .0) (now (a .rows)) (now (a .lambda)) (now (a .delta)) (now (a .table)) (now (a .cells)) (now (a .sums)) (fine e) _ (k .check .ensures .1)
 
 sums-of-requires : tie.Need-sums-of-requires
 sums-of-requires c κs =
@@ -43,7 +43,7 @@ sums-of-requires c κs =
     let e = g .before .before in
     let k = checked e in
     let a = start k .args in
-    counted-few (a .n .0) (a .darts) (a .h .0) (now (a .rows)) (now (a .lambda)) (now (a .delta)) _ (left-accepted (a .n .0) (a .darts) (a .h .0) (now (a .rows)) (now (a .lambda)) (now (a .delta)) (now (a .table)) (now (a .cells)) (now (a .sums)) (fine e) _ (k .check .ensures .1)) (g .count-levels .result) (g .count-levels .ensures .0)
+    counted-few (a .sizes .n .0) (a .sizes .darts) (a .sizes .h .0) (now (a .rows)) (now (a .lambda)) (now (a .delta)) _ (left-accepted (a .sizes .n .0) (a .sizes .darts) (a .sizes .h .0) (now (a .rows)) (now (a .lambda)) (now (a .delta)) (now (a .table)) (now (a .cells)) (now (a .sums)) (fine e) _ (k .check .ensures .1)) (g .count-levels .result) (g .count-levels .ensures .0)
 
 returns-2 : tie.Need-returns-2
 returns-2 c =
@@ -51,7 +51,7 @@ returns-2 c =
     let e = g .before .before in
     let k = checked e in
     let a = start k .args in
-    (fine e, (left-table (a .n .0) (a .darts) (a .h .0) (now (a .rows)) (now (a .lambda)) (now (a .delta)) (now (a .table)) (now (a .cells)) (now (a .sums)) (fine e) _ (g .count-levels .ensures .1), census-left (a .n .0) (a .darts) (a .h .0) (now (a .rows)) (now (a .lambda)) (now (a .delta)) (now (a .table)) (now (a .cells)) (now (a .sums)) (fine e) (g .count-levels .result) (c .sums-of .result) (g .count-levels .ensures .0) (c .sums-of .ensures)))
+    (fine e, (left-table (a .sizes .n .0) (a .sizes .darts) (a .sizes .h .0) (now (a .rows)) (now (a .lambda)) (now (a .delta)) (now (a .table)) (now (a .cells)) (now (a .sums)) (fine e) _ (g .count-levels .ensures .1), census-left (a .sizes .n .0) (a .sizes .darts) (a .sizes .h .0) (now (a .rows)) (now (a .lambda)) (now (a .delta)) (now (a .table)) (now (a .cells)) (now (a .sums)) (fine e) (g .count-levels .result) (c .sums-of .result) (g .count-levels .ensures .0) (c .sums-of .ensures)))
 
 pub census-spec : {M : Type 1} → statement M
 census-spec =

@@ -25,8 +25,8 @@ cast-start c = search needs
 mul-start : tie.Need-mul-start
 mul-start c = let f = c .before .before .before .before .before .pre (ap verdictOf (c .before .before .before .enum-told .given .1)) in omega (arith, f)
 
-enum-known-check : tie.Need-enum-known-check
-enum-known-check c = search needs
+enum-known-answer : tie.Need-enum-known-answer
+enum-known-answer c = search needs
 
 refused-requires : tie.Need-refused-requires
 refused-requires c κs = search needs
@@ -40,7 +40,7 @@ returns c =
 returns-2 : tie.Need-returns-2
 returns-2 c =
     let a = c .before .before .before .before .args in
-    ap (λ v. partFor v (a .darts) (a .level .0) (a .involution .0)) (c .refused .ensures ∙ sym (ap verdictOf (c .before .before .check .given .1)))
+    ap (λ v. partFor v (a .darts) (a .level .0) (a .involution .0)) (c .refused .ensures ∙ sym (ap verdictOf (c .before .before .answer .given .1)))
 
 pub part-as-spec : {M : Type 1} → statement M
 part-as-spec =
@@ -51,7 +51,7 @@ part-as-spec =
     is-unfolded-requires
     cast-start
     mul-start
-    enum-known-check
+    enum-known-answer
     refused-requires
     returns
     returns-2)

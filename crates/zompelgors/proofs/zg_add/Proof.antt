@@ -8,8 +8,8 @@ use Rattle.zompelgors.proofs.zg_add.Tie as tie
 add-requires : tie.Need-add-requires
 add-requires c κs = search needs
 
-added-as-requires : tie.Need-added-as-requires
-added-as-requires c κs = search needs
+height-as-requires : tie.Need-height-as-requires
+height-as-requires c κs = search needs
 
 same-length : tie.Need-same-length
 same-length c = search needs
@@ -21,9 +21,9 @@ same-length-3 : tie.Need-same-length-3
 same-length-3 c = search needs
 
 returns : tie.Need-returns
-returns c = let e = c .before .before .before .before .before .before .before .add .ensures in (c .added-as .ensures ∙ ap₂ heightFor (e .0) (e .1 .0), e .1 .1)
+returns c = let e = c .before .before .before .before .before .before .before .add .ensures in (c .height-as .ensures ∙ ap₂ heightFor (e .0) (e .1 .0), e .1 .1)
 
 pub zg-add-spec : {M : Type 1} → statement M
 zg-add-spec =
     tie.close
-    (tie.spec add-requires added-as-requires same-length same-length-2 same-length-3 returns)
+    (tie.spec add-requires height-as-requires same-length same-length-2 same-length-3 returns)

@@ -6,7 +6,7 @@ use Rattle.zompelgors.proofs.zg_census.Statement.{statement}
 use Rattle.zompelgors.proofs.zg_census.Tie as tie
 
 returns : tie.Need-returns
-returns c = let e = c .before .before .before .before .before .before .census-into .ensures in (c .checked-as .ensures ∙ ap refusalFor (e .0), e .1)
+returns c = let e = c .before .before .before .before .before .before .census-into .ensures in (c .refusal-as .ensures ∙ ap refusalFor (e .0), e .1)
 
 pub zg-census-spec : {M : Type 1} → statement M
 zg-census-spec =

@@ -8,14 +8,14 @@ use Rattle.zompelgors.proofs.zg_check.Tie as tie
 check-requires : tie.Need-check-requires
 check-requires c κs = search needs
 
-checked-as-requires : tie.Need-checked-as-requires
-checked-as-requires c κs = search needs
+refusal-as-requires : tie.Need-refusal-as-requires
+refusal-as-requires c κs = search needs
 
 same-length : tie.Need-same-length
 same-length c = search needs
 
 returns : tie.Need-returns
-returns c = let e = c .before .before .before .check .ensures in (c .checked-as .ensures ∙ ap refusalFor (e .0), e .1)
+returns c = let e = c .before .before .before .check .ensures in (c .refusal-as .ensures ∙ ap refusalFor (e .0), e .1)
 
 pub zg-check-spec : {M : Type 1} → statement M
-zg-check-spec = tie.close (tie.spec check-requires checked-as-requires same-length returns)
+zg-check-spec = tie.close (tie.spec check-requires refusal-as-requires same-length returns)

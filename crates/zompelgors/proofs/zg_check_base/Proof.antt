@@ -8,11 +8,11 @@ use Rattle.zompelgors.proofs.zg_check_base.Tie as tie
 check-base-requires : tie.Need-check-base-requires
 check-base-requires c κs = search needs
 
-checked-as-requires : tie.Need-checked-as-requires
-checked-as-requires c κs = search needs
+refusal-as-requires : tie.Need-refusal-as-requires
+refusal-as-requires c κs = search needs
 
 returns : tie.Need-returns
-returns c = c .checked-as .ensures ∙ ap refusalFor (c .before .check-base .ensures)
+returns c = c .refusal-as .ensures ∙ ap refusalFor (c .before .check-base .ensures)
 
 pub zg-check-base-spec : {M : Type 1} → statement M
-zg-check-base-spec = tie.close (tie.spec check-base-requires checked-as-requires returns)
+zg-check-base-spec = tie.close (tie.spec check-base-requires refusal-as-requires returns)

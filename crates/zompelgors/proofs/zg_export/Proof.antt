@@ -7,8 +7,8 @@ use Rattle.zompelgors.proofs.zg_export.Tie as tie
 export-requires : tie.Need-export-requires
 export-requires c κs = search needs
 
-checked-as-requires : tie.Need-checked-as-requires
-checked-as-requires c κs = search needs
+refusal-as-requires : tie.Need-refusal-as-requires
+refusal-as-requires c κs = search needs
 
 same-length : tie.Need-same-length
 same-length c = search needs
@@ -17,7 +17,7 @@ same-length-2 : tie.Need-same-length-2
 same-length-2 c = search needs
 
 returns : tie.Need-returns
-returns c = let answered = c .before .before .before .before .before .export in (verdictOf (answered .result), c .checked-as .ensures, answered .ensures)
+returns c = let answered = c .before .before .before .before .before .export in (verdictOf (answered .result), c .refusal-as .ensures, answered .ensures)
 
 pub zg-export-spec : {M : Type 1} → statement M
-zg-export-spec = tie.close (tie.spec export-requires checked-as-requires same-length same-length-2 returns)
+zg-export-spec = tie.close (tie.spec export-requires refusal-as-requires same-length same-length-2 returns)

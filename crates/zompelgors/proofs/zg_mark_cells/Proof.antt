@@ -8,14 +8,14 @@ use Rattle.zompelgors.proofs.zg_mark_cells.Tie as tie
 mark-cells-requires : tie.Need-mark-cells-requires
 mark-cells-requires c κs = search needs
 
-checked-as-requires : tie.Need-checked-as-requires
-checked-as-requires c κs = search needs
+refusal-as-requires : tie.Need-refusal-as-requires
+refusal-as-requires c κs = search needs
 
 same-length : tie.Need-same-length
 same-length c = search needs
 
 returns : tie.Need-returns
-returns c = let e = c .before .before .before .mark-cells .ensures in (c .checked-as .ensures ∙ ap refusalFor (e .0), e .1)
+returns c = let e = c .before .before .before .mark-cells .ensures in (c .refusal-as .ensures ∙ ap refusalFor (e .0), e .1)
 
 pub zg-mark-cells-spec : {M : Type 1} → statement M
-zg-mark-cells-spec = tie.close (tie.spec mark-cells-requires checked-as-requires same-length returns)
+zg-mark-cells-spec = tie.close (tie.spec mark-cells-requires refusal-as-requires same-length returns)

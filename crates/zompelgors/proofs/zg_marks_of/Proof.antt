@@ -8,14 +8,14 @@ use Rattle.zompelgors.proofs.zg_marks_of.Tie as tie
 marks-of-requires : tie.Need-marks-of-requires
 marks-of-requires c κs = search needs
 
-checked-as-requires : tie.Need-checked-as-requires
-checked-as-requires c κs = search needs
+refusal-as-requires : tie.Need-refusal-as-requires
+refusal-as-requires c κs = search needs
 
 same-length : tie.Need-same-length
 same-length c = search needs
 
 returns : tie.Need-returns
-returns c = let e = c .before .before .before .marks-of .ensures in (c .checked-as .ensures ∙ ap refusalFor (e .0), e .1)
+returns c = let e = c .before .before .before .marks-of .ensures in (c .refusal-as .ensures ∙ ap refusalFor (e .0), e .1)
 
 pub zg-marks-of-spec : {M : Type 1} → statement M
-zg-marks-of-spec = tie.close (tie.spec marks-of-requires checked-as-requires same-length returns)
+zg-marks-of-spec = tie.close (tie.spec marks-of-requires refusal-as-requires same-length returns)

@@ -8,11 +8,11 @@ use Rattle.zompelgors.proofs.zg_read_by_levels.Tie as tie
 read-by-levels-requires : tie.Need-read-by-levels-requires
 read-by-levels-requires c κs = search needs
 
-read-as-requires : tie.Need-read-as-requires
-read-as-requires c κs = search needs
+reading-as-requires : tie.Need-reading-as-requires
+reading-as-requires c κs = search needs
 
 returns : tie.Need-returns
-returns c = c .read-as .ensures ∙ ap readingFor (c .before .read-by-levels .ensures)
+returns c = c .reading-as .ensures ∙ ap readingFor (c .before .read-by-levels .ensures)
 
 pub zg-read-by-levels-spec : {M : Type 1} → statement M
-zg-read-by-levels-spec = tie.close (tie.spec read-by-levels-requires read-as-requires returns)
+zg-read-by-levels-spec = tie.close (tie.spec read-by-levels-requires reading-as-requires returns)

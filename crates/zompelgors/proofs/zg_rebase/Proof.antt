@@ -8,8 +8,8 @@ use Rattle.zompelgors.proofs.zg_rebase.Tie as tie
 rebase-requires : tie.Need-rebase-requires
 rebase-requires c κs = search needs
 
-based-as-requires : tie.Need-based-as-requires
-based-as-requires c κs = search needs
+base-as-requires : tie.Need-base-as-requires
+base-as-requires c κs = search needs
 
 same-length : tie.Need-same-length
 same-length c = search needs
@@ -27,14 +27,14 @@ same-length-5 : tie.Need-same-length-5
 same-length-5 c = search needs
 
 returns : tie.Need-returns
-returns c = let e = c .before .before .before .before .before .before .before .before .before .before .before .rebase .ensures in (c .based-as .ensures ∙ ap baseFor (e .0), e .1)
+returns c = let e = c .before .before .before .before .before .before .before .before .before .before .before .rebase .ensures in (c .base-as .ensures ∙ ap baseFor (e .0), e .1)
 
 pub zg-rebase-spec : {M : Type 1} → statement M
 zg-rebase-spec =
     tie.close
     (tie.spec
     rebase-requires
-    based-as-requires
+    base-as-requires
     same-length
     same-length-2
     same-length-3

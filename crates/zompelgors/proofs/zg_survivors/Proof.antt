@@ -8,14 +8,14 @@ use Rattle.zompelgors.proofs.zg_survivors.Tie as tie
 survivors-requires : tie.Need-survivors-requires
 survivors-requires c κs = search needs
 
-counted-as-requires : tie.Need-counted-as-requires
-counted-as-requires c κs = search needs
+count-as-requires : tie.Need-count-as-requires
+count-as-requires c κs = search needs
 
 same-length : tie.Need-same-length
 same-length c = search needs
 
 returns : tie.Need-returns
-returns c = let e = c .before .before .before .survivors .ensures in (c .counted-as .ensures ∙ ap₂ countFor (e .0) (e .1 .0), e .1 .1)
+returns c = let e = c .before .before .before .survivors .ensures in (c .count-as .ensures ∙ ap₂ countFor (e .0) (e .1 .0), e .1 .1)
 
 pub zg-survivors-spec : {M : Type 1} → statement M
-zg-survivors-spec = tie.close (tie.spec survivors-requires counted-as-requires same-length returns)
+zg-survivors-spec = tie.close (tie.spec survivors-requires count-as-requires same-length returns)

@@ -8,8 +8,8 @@ use Rattle.zompelgors.proofs.zg_take.Tie as tie
 take-requires : tie.Need-take-requires
 take-requires c κs = search needs
 
-taken-as-requires : tie.Need-taken-as-requires
-taken-as-requires c κs = search needs
+record-as-requires : tie.Need-record-as-requires
+record-as-requires c κs = search needs
 
 same-length : tie.Need-same-length
 same-length c = search needs
@@ -24,9 +24,9 @@ same-length-4 : tie.Need-same-length-4
 same-length-4 c = search needs
 
 returns : tie.Need-returns
-returns c = let e = c .before .before .before .before .before .before .before .before .before .take .ensures in (c .taken-as .ensures ∙ ap recordFor (e .0), e .1)
+returns c = let e = c .before .before .before .before .before .before .before .before .before .take .ensures in (c .record-as .ensures ∙ ap recordFor (e .0), e .1)
 
 pub zg-take-spec : {M : Type 1} → statement M
 zg-take-spec =
     tie.close
-    (tie.spec take-requires taken-as-requires same-length same-length-2 same-length-3 same-length-4 returns)
+    (tie.spec take-requires record-as-requires same-length same-length-2 same-length-3 same-length-4 returns)

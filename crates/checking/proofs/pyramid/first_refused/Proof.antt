@@ -1,7 +1,6 @@
 -- `checking::pyramid::first_refused` meets its contract. The invariant: the marks of the darts passed are not refused. The measure is the darts left. Assumes nothing.
 use mathlib.Core.Path.{_≡_, refl, sym, ap, _∙_}
 use mathlib.Core.Bool.{Bool, true, false}
-use mathlib.Core.List.{[]}
 use Prim.Native.Nat.{_-_, _≤_, zero-le}
 use native.Mathlib.Omega.{arith}
 use denote.Ref.{now}
@@ -10,7 +9,6 @@ use Rattle.maps.specs.Table.{each}
 use Rattle.maps.specs.Verdict.{accepted, refused, when, scan}
 use Rattle.maps.specs.AddLevel.{atRow8}
 use Rattle.laws.proofs.Verdicts.{scan-first, scan-more}
-use Rattle.maps.specs.Folded.{ofParts}
 use Rattle.checking.proofs.pyramid.first_refused.Statement.{statement}
 use Rattle.checking.proofs.pyramid.first_refused.Tie as tie
 
@@ -26,7 +24,7 @@ head c = c .before .before .before .before
 
 here : (c : tie.After-mark-refused Inv-loop μ-loop) (t : Bool) → c .mark-refused .result ≡ t → let a = head c .before .before .before .args in atRow8 (a .n .0) (a .h .0) (each (now (a .lambda))) (each (now (a .row))) (head c .loop .d) ≡ when t (refused 8 (a .h .0) 0 (head c .loop .d))
 unfolding atRow8
-here c t e = let h = head c in ap (λ (t : Bool). when t (refused 8 (h .before .before .before .args .h .0) 0 (h .loop .d))) (sym (c .mark-refused .ensures) ∙ e)
+here c t e = let h = head c in ap (λ (t : Bool). when t (refused 8 (h .before .before .before .args .h .0) 0 (h .loop .d))) (rw (c .before .before .lambda-at .ensures, c .before .delta-at .ensures) at (sym (c .mark-refused .ensures) ∙ e))
 
 loop-holds : tie.Need-loop-holds Inv-loop μ-loop
 unfolding scan
@@ -35,11 +33,11 @@ loop-holds c = (zero-le, refl)
 cast-at : tie.Need-cast-at Inv-loop μ-loop
 cast-at c = search needs
 
-shared-slice-read-t11 : tie.Need-shared-slice-read-t11 Inv-loop μ-loop
-shared-slice-read-t11 c = search needs
+lambda-at-requires : tie.Need-lambda-at-requires Inv-loop μ-loop
+lambda-at-requires c κs = search needs
 
-shared-slice-read-t14 : tie.Need-shared-slice-read-t14 Inv-loop μ-loop
-shared-slice-read-t14 c = search needs
+delta-at-requires : tie.Need-delta-at-requires Inv-loop μ-loop
+delta-at-requires c κs = search needs
 
 mark-refused-requires : tie.Need-mark-refused-requires Inv-loop μ-loop
 mark-refused-requires c κs = search needs
@@ -73,8 +71,8 @@ first-refused-spec =
     μ-loop
     loop-holds
     cast-at
-    shared-slice-read-t11
-    shared-slice-read-t14
+    lambda-at-requires
+    delta-at-requires
     mark-refused-requires
     returns
     add-d

@@ -1,11 +1,10 @@
 -- `checking::pyramid::fold_in` meets its contract. The invariant: the darts passed have their new marks, the others their old ones. The measure is the darts left. Assumes nothing.
-use mathlib.Core.Path.{ap, _∙_}
+use mathlib.Core.Path.{ap₂, _∙_}
 use mathlib.Core.Bool.{cond}
 use Prim.Native.Nat.{ℕ, suc, _-_, _≤_, zero-le}
 use native.Mathlib.Omega.{arith}
 use lib.ListN.{length}
 use lib.Dec.{eqb}
-use denote.Ref.{now}
 use borrow.Author.Needs.{needs}
 use Rattle.maps.specs.Mark.{isMark}
 use Rattle.maps.specs.Table.{each}
@@ -27,17 +26,17 @@ start c = c .before .before .before .before
 loop-holds : tie.Need-loop-holds Inv-loop μ-loop
 loop-holds c = (zero-le, row-none _ _, row-none _ _)
 
-shared-slice-read-t13 : tie.Need-shared-slice-read-t13 Inv-loop μ-loop
-shared-slice-read-t13 c = search needs
+delta-at-requires : tie.Need-delta-at-requires Inv-loop μ-loop
+delta-at-requires c κs = search needs
 
-slice-read-t13 : tie.Need-slice-read-t13 Inv-loop μ-loop
-slice-read-t13 c = search needs
+lambda-at-requires : tie.Need-lambda-at-requires Inv-loop μ-loop
+lambda-at-requires c κs = search needs
 
 lambda-after-requires : tie.Need-lambda-after-requires Inv-loop μ-loop
 lambda-after-requires c κs = search needs
 
-slice-read-t13-2 : tie.Need-slice-read-t13-2 Inv-loop μ-loop
-slice-read-t13-2 c = search needs
+delta-at-requires-2 : tie.Need-delta-at-requires-2 Inv-loop μ-loop
+delta-at-requires-2 c κs = search needs
 
 delta-after-requires : tie.Need-delta-after-requires Inv-loop μ-loop
 delta-after-requires c κs = search needs
@@ -56,14 +55,16 @@ loop-less c = search needs
 
 loop-again : tie.Need-loop-again Inv-loop μ-loop
 loop-again c =
-    let h : tie.At-loop Inv-loop μ-loop = c .before .before .before .before .before .before in
+    let k : tie.After-delta-at Inv-loop μ-loop = c .before .before .before .before .before .before in
+    let h : tie.At-loop Inv-loop μ-loop = k .before .before in
     let a = start h .args in
     let l = h .loop in
-    let m = each (now (a .row)) (l .d) in
-    let x = c .before .before .lambda-after in (
+    let x : tie.After-lambda-after Inv-loop μ-loop = c .before .before .before in
+    let old = x .before .lambda-at .ensures ∙ l .inv .1 .rest (l .d) (omega arith) in
+    let mark = c .before .delta-at2 .ensures ∙ l .inv .2 .rest (l .d) (omega arith) in (
       omega arith,
-      row-set (l .inv .1) (omega arith) (x .result .0) (x .ensures ∙ ap (λ (x : ℕ). cond (isMark (a .n .0) m) (a .h .0) (cond (eqb x (a .h .0)) (suc (a .h .0)) x)) (l .inv .1 .rest (l .d) (omega arith))),
-      row-set (l .inv .2) (omega arith) (c .delta-after .result .0) (c .delta-after .ensures ∙ ap (λ (x : ℕ). cond (isMark (a .n .0) m) m x) (l .inv .2 .rest (l .d) (omega arith))),
+      row-set (l .inv .1) (omega arith) (x .lambda-after .result .0) (x .lambda-after .ensures ∙ ap₂ (λ (m y : ℕ). cond (isMark (a .n .0) m) (a .h .0) (cond (eqb y (a .h .0)) (suc (a .h .0)) y)) (k .delta-at .ensures) old),
+      row-set (l .inv .2) (omega arith) (c .delta-after .result .0) (c .delta-after .ensures ∙ ap₂ (λ (m y : ℕ). cond (isMark (a .n .0) m) m y) (k .delta-at .ensures) mark),
     )
 
 same-length : tie.Need-same-length Inv-loop μ-loop
@@ -82,10 +83,10 @@ fold-in-spec =
     Inv-loop
     μ-loop
     loop-holds
-    shared-slice-read-t13
-    slice-read-t13
+    delta-at-requires
+    lambda-at-requires
     lambda-after-requires
-    slice-read-t13-2
+    delta-at-requires-2
     delta-after-requires
     slice-write-lambda
     slice-write-delta

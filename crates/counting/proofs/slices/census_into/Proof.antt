@@ -1,6 +1,5 @@
 -- `counting::slices::census_into` meets its contract: the two lengths, then the job, then a copy of what it found. Assumes nothing.
 use mathlib.Core.Path.{_≡_, sym, _∙_}
-use native.Mathlib.Omega.{arith}
 use lib.ListN.{length}
 use lib.Dec.{eqb}
 use denote.Ref.{now}
@@ -11,7 +10,7 @@ use Rattle.maps.specs.Verdict.{accepted}
 use Rattle.maps.specs.CheckPyramid.{checkLent}
 use Rattle.maps.specs.Census.{censusFits}
 use Rattle.laws.proofs.Verdicts.{and-both}
-use Rattle.answers.specs.Pyramid.{given}
+use Rattle.answers.specs.Pyramid.{lent}
 use Rattle.answers.proofs.Refusals.{told}
 use Rattle.counting.proofs.Putting.{other-lengths, other-table, other-left, same-verdict, same-table, same-refused, all-fit, put-left}
 use Rattle.counting.proofs.slices.census_into.Statement.{statement}
@@ -33,7 +32,7 @@ abbrev answered : tie.After-enum-told → tie.After-census
 answered c = c .before .before .before .before
 
 -- it has accepted
-fine : (c : tie.After-enum-told) → let a = start (going-on (answered c) .before) .args in accepted ≡ checkLent (given (a .n .0) (a .darts) (a .h .0) (a .rows) (a .lambda) (a .delta)) (now (a .table))
+fine : (c : tie.After-enum-told) → let a = start (going-on (answered c) .before) .args in accepted ≡ checkLent (lent (a .sizes) (a .rows) (a .lambda) (a .delta)) (now (a .table))
 fine c = told (answered c .census .ensures .0) (c .enum-told .given .1)
 
 returns : tie.Need-returns
@@ -41,7 +40,7 @@ returns c =
     let b = c .before .before in
     let a = start b .args in
     let other : censusFits (now (a .cells)) (now (a .sums)) ≡ false = sym (b .both .ensures) ∙ not-true (b .both .result) (c .before .if1 .taken) in
-    (c .lent .ensures ∙ other-lengths (a .n .0) (a .darts) (a .h .0) (now (a .rows)) (now (a .lambda)) (now (a .delta)) (now (a .table)) (now (a .cells)) (now (a .sums)) other, (other-table (a .n .0) (a .darts) (a .h .0) (now (a .rows)) (now (a .lambda)) (now (a .delta)) (now (a .table)) (now (a .cells)) (now (a .sums)) other, other-left (a .n .0) (a .darts) (a .h .0) (now (a .rows)) (now (a .lambda)) (now (a .delta)) (now (a .table)) (now (a .cells)) (now (a .sums)) other))
+    (c .lent .ensures ∙ other-lengths (a .sizes .n .0) (a .sizes .darts) (a .sizes .h .0) (now (a .rows)) (now (a .lambda)) (now (a .delta)) (now (a .table)) (now (a .cells)) (now (a .sums)) other, (other-table (a .sizes .n .0) (a .sizes .darts) (a .sizes .h .0) (now (a .rows)) (now (a .lambda)) (now (a .delta)) (now (a .table)) (now (a .cells)) (now (a .sums)) other, other-left (a .sizes .n .0) (a .sizes .darts) (a .sizes .h .0) (now (a .rows)) (now (a .lambda)) (now (a .delta)) (now (a .table)) (now (a .cells)) (now (a .sums)) other))
 
 returns-2 : tie.Need-returns-2
 returns-2 c =
@@ -50,7 +49,7 @@ returns-2 c =
     let a = start (e .before) .args in
     let r = c .before .r .given in
     let v = told (k .census .ensures .0) (r .1) in
-    (v ∙ same-verdict (a .n .0) (a .darts) (a .h .0) (now (a .rows)) (now (a .lambda)) (now (a .delta)) (now (a .table)) (now (a .cells)) (now (a .sums)) (same e), (k .census .ensures .1 .0 ∙ same-table (a .n .0) (a .darts) (a .h .0) (now (a .rows)) (now (a .lambda)) (now (a .delta)) (now (a .table)) (now (a .cells)) (now (a .sums)) (same e), same-refused (a .n .0) (a .darts) (a .h .0) (now (a .rows)) (now (a .lambda)) (now (a .delta)) (now (a .table)) (now (a .cells)) (now (a .sums)) (same e) (r .0 .0) v))
+    (v ∙ same-verdict (a .sizes .n .0) (a .sizes .darts) (a .sizes .h .0) (now (a .rows)) (now (a .lambda)) (now (a .delta)) (now (a .table)) (now (a .cells)) (now (a .sums)) (same e), (k .census .ensures .1 .0 ∙ same-table (a .sizes .n .0) (a .sizes .darts) (a .sizes .h .0) (now (a .rows)) (now (a .lambda)) (now (a .delta)) (now (a .table)) (now (a .cells)) (now (a .sums)) (same e), same-refused (a .sizes .n .0) (a .sizes .darts) (a .sizes .h .0) (now (a .rows)) (now (a .lambda)) (now (a .delta)) (now (a .table)) (now (a .cells)) (now (a .sums)) (same e) (r .0 .0) v))
 
 put-cells-requires : tie.Need-put-cells-requires
 put-cells-requires c κs =
@@ -64,7 +63,7 @@ put-sums-requires c κs =
     let k = answered told-at in
     let e = going-on k in
     let a = start (e .before) .args in
-    (all-fit (a .n .0) (a .darts) (a .h .0) (now (a .rows)) (now (a .lambda)) (now (a .delta)) (now (a .table)) (now (a .cells)) (now (a .sums)) (fine told-at) _ _ _ _ (k .census .ensures .1 .1), eqb-true (length (now (a .sums))) 33 (and-both (eqb (length (now (a .cells))) 165) (eqb (length (now (a .sums))) 33) (same e) .1))
+    (all-fit (a .sizes .n .0) (a .sizes .darts) (a .sizes .h .0) (now (a .rows)) (now (a .lambda)) (now (a .delta)) (now (a .table)) (now (a .cells)) (now (a .sums)) (fine told-at) _ _ _ _ (k .census .ensures .1 .1), eqb-true (length (now (a .sums))) 33 (and-both (eqb (length (now (a .cells))) 165) (eqb (length (now (a .sums))) 33) (same e) .1))
 
 returns-3 : tie.Need-returns-3
 returns-3 c =
@@ -73,7 +72,7 @@ returns-3 c =
     let k = answered told-at in
     let e = going-on k in
     let a = start (e .before) .args in
-    (fine told-at ∙ same-verdict (a .n .0) (a .darts) (a .h .0) (now (a .rows)) (now (a .lambda)) (now (a .delta)) (now (a .table)) (now (a .cells)) (now (a .sums)) (same e), (k .census .ensures .1 .0 ∙ same-table (a .n .0) (a .darts) (a .h .0) (now (a .rows)) (now (a .lambda)) (now (a .delta)) (now (a .table)) (now (a .cells)) (now (a .sums)) (same e), put-left (a .n .0) (a .darts) (a .h .0) (now (a .rows)) (now (a .lambda)) (now (a .delta)) (now (a .table)) (now (a .cells)) (now (a .sums)) (fine told-at) _ _ _ _ (k .census .ensures .1 .1) (same e) _ _ (put .put-cells .ensures) (c .before .put-sums .ensures)))
+    (fine told-at ∙ same-verdict (a .sizes .n .0) (a .sizes .darts) (a .sizes .h .0) (now (a .rows)) (now (a .lambda)) (now (a .delta)) (now (a .table)) (now (a .cells)) (now (a .sums)) (same e), (k .census .ensures .1 .0 ∙ same-table (a .sizes .n .0) (a .sizes .darts) (a .sizes .h .0) (now (a .rows)) (now (a .lambda)) (now (a .delta)) (now (a .table)) (now (a .cells)) (now (a .sums)) (same e), put-left (a .sizes .n .0) (a .sizes .darts) (a .sizes .h .0) (now (a .rows)) (now (a .lambda)) (now (a .delta)) (now (a .table)) (now (a .cells)) (now (a .sums)) (fine told-at) _ _ _ _ (k .census .ensures .1 .1) (same e) _ _ (put .put-cells .ensures) (c .before .put-sums .ensures)))
 
 pub census-into-spec : {M : Type 1} → statement M
 census-into-spec =

@@ -41,6 +41,10 @@ start c = c .before .before .before .before
 abbrev head : tie.After-stands Inv-loop μ-loop → tie.At-loop Inv-loop μ-loop
 head c = c .before .before .before
 
+-- and from where its Λ and Δ are read
+abbrev turn : tie.After-delta-at Inv-loop μ-loop → tie.At-loop Inv-loop μ-loop
+turn c = head (c .before .before .before .before .before .before)
+
 -- whether the dart of the turn survives is told by Λ as it was
 is : (c : tie.After-stands Inv-loop μ-loop) → let a = start (head c) .args in c .stands .result ≡ survives (each (now (a .lambda))) (a .level .0) (head c .loop .d)
 is c = c .stands .ensures ∙ ap (λ (x : ℕ). not (ltb x (start (head c) .args .level .0))) (packs-here (head c .loop .inv .2) refl)
@@ -63,26 +67,26 @@ loop-again c =
     let e : l .next ≡ 0 + count p (l .d) = omega (arith, l .inv .1) in (
       omega arith,
       ⊎-elim
-          (λ w. omega (arith, w .7, l .inv .1, count-on p (l .d) (sym (is (c .before)) ∙ w .0 .taken)))
+          (λ w. omega (arith, w .9, l .inv .1, count-on p (l .d) (sym (is (c .before)) ∙ w .0 .taken)))
           (λ w. omega (arith, w .4, l .inv .1, count-over p (l .d) (sym (is (c .before)) ∙ w .0 .left)))
           (c .if1 .came),
       ⊎-elim
-          (λ w. rw (w .4) (packs-on (l .inv .2) (sym (is (c .before)) ∙ w .0 .taken) (l .next) _ e (omega (arith, r .0)) (w .2 .ensures ∙ ap (λ (x : ℕ). x - a .level .0) (packs-here (l .inv .2) refl))))
+          (λ w. rw (w .6) (packs-on (l .inv .2) (sym (is (c .before)) ∙ w .0 .taken) (l .next) _ e (omega (arith, r .0)) (w .3 .ensures ∙ ap (λ (x : ℕ). x - a .level .0) (w .2 .ensures ∙ packs-here (l .inv .2) refl))))
           (λ w. rw (w .1) (packs-over (l .inv .2) (sym (is (c .before)) ∙ w .0 .left)))
           (c .if1 .came),
       ⊎-elim
-          (λ w. rw (w .5) (packs-on (l .inv .3) (sym (is (c .before)) ∙ w .0 .taken) (l .next) _ e (omega (arith, r .0, s .pre .1)) (packs-here (l .inv .3) refl)))
+          (λ w. rw (w .7) (packs-on (l .inv .3) (sym (is (c .before)) ∙ w .0 .taken) (l .next) _ e (omega (arith, r .0, s .pre .1)) (w .5 .ensures ∙ packs-here (l .inv .3) refl)))
           (λ w. rw (w .2) (packs-over (l .inv .3) (sym (is (c .before)) ∙ w .0 .left)))
           (c .if1 .came),
       ⊎-elim
-          (λ w. rw (w .6) (packs-on (l .inv .4) (sym (is (c .before)) ∙ w .0 .taken) (l .next) _ e (omega (arith, r .0, s .pre .2)) refl))
+          (λ w. rw (w .8) (packs-on (l .inv .4) (sym (is (c .before)) ∙ w .0 .taken) (l .next) _ e (omega (arith, r .0, s .pre .2)) refl))
           (λ w. rw (w .3) (packs-over (l .inv .4) (sym (is (c .before)) ∙ w .0 .left)))
           (c .if1 .came),
     )
 
 -- the level is at most the Λ that it is taken from
 reduced-requires : tie.Need-reduced-requires Inv-loop μ-loop
-reduced-requires c κs = let t : tie.Then1 Inv-loop μ-loop = c .before in ltb-false _ _ (not-true _ (sym (t .before .stands .ensures) ∙ t .if1 .taken))
+reduced-requires c κs = let t : tie.Then1 Inv-loop μ-loop = c .before .before in rw (c .lambda-at .ensures) (ltb-false _ _ (not-true _ (sym (t .before .stands .ensures) ∙ t .if1 .taken)))
 
 fill-marks-requires : tie.Need-fill-marks-requires Inv-loop μ-loop
 fill-marks-requires c κs = let r = room (c .before .before) in omega (arith, r .0, r .1)
@@ -94,13 +98,13 @@ fill-numbers-requires : tie.Need-fill-numbers-requires Inv-loop μ-loop
 fill-numbers-requires c κs = let r = room (c .before .before .before .before .before .before .before .before .before .before) in omega (arith, r .0, r .3)
 
 -- the three calls that fill, and the end of the loop, from the end
-abbrev lambda-filled : tie.After-slice-known8 Inv-loop μ-loop → tie.After-fill-marks Inv-loop μ-loop
+abbrev lambda-filled : tie.After-slice-known6 Inv-loop μ-loop → tie.After-fill-marks Inv-loop μ-loop
 lambda-filled c = c .before .before .before .before .before .before .before .before .before .before
 
-abbrev delta-filled : tie.After-slice-known8 Inv-loop μ-loop → tie.After-fill-marks2 Inv-loop μ-loop
+abbrev delta-filled : tie.After-slice-known6 Inv-loop μ-loop → tie.After-fill-marks2 Inv-loop μ-loop
 delta-filled c = c .before .before .before .before .before .before
 
-abbrev end : tie.After-slice-known8 Inv-loop μ-loop → tie.At-loop Inv-loop μ-loop
+abbrev end : tie.After-slice-known6 Inv-loop μ-loop → tie.At-loop Inv-loop μ-loop
 end c = lambda-filled c .before .before .before
 
 returns : tie.Need-returns Inv-loop μ-loop
@@ -122,15 +126,15 @@ pack-marks-spec =
     μ-loop
     loop-holds
     (λ c κs. omega (arith, room (c .before .before)))
-    (λ c. omega (arith, room (head (c .before .before))))
+    (λ c κs. omega (arith, room (head (c .before .before))))
     reduced-requires
-    (λ c. omega (arith, room (head (c .before .before .before))))
-    (λ c. omega (arith, room (head (c .before .before .before .before))))
-    (λ c. omega (arith, room (head (c .before .before .before .before))))
+    (λ c κs. omega (arith, room (head (c .before .before .before .before .before))))
+    (λ c. omega (arith, room (turn c)))
+    (λ c. omega (arith, room (turn c)))
     (λ c. omega arith)
-    (λ c. omega (arith, room (head (c .before .before .before .before))))
-    (λ c. omega (arith, room (head (c .before .before .before .before))))
-    (λ c. omega (arith, room (head (c .before .before .before .before))))
+    (λ c. omega (arith, room (turn c)))
+    (λ c. omega (arith, room (turn c)))
+    (λ c. omega (arith, room (turn c)))
     (λ c. search needs)
     (λ c. search needs)
     loop-again

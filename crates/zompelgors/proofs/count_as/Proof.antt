@@ -1,4 +1,4 @@
--- `counted_as` meets its contract. Assumes nothing.
+-- `count_as` meets its contract. Assumes nothing.
 use mathlib.Core.Path.{sym, ap, _∙_}
 use Prim.Native.Nat.{ℕ}
 use Rattle.rows.specs.Answers.{verdictOfSurvivors, countOfSurvivors}
@@ -6,8 +6,8 @@ use Rattle.zompelgors.specs.Flat.{countFor}
 use Rattle.zompelgors.specs.declared.ZgRefusal.{ZgRefusal}
 use Rattle.zompelgors.specs.declared.ZgCount.{ZgCount}
 use borrow.Author.Needs.{needs}
-use Rattle.zompelgors.proofs.counted_as.Statement.{statement}
-use Rattle.zompelgors.proofs.counted_as.Tie as tie
+use Rattle.zompelgors.proofs.count_as.Statement.{statement}
+use Rattle.zompelgors.proofs.count_as.Tie as tie
 
 enum-known-answer : tie.Need-enum-known-answer
 enum-known-answer c = search needs
@@ -29,7 +29,7 @@ returns c =
 returns-2 : tie.Need-returns-2
 returns-2 c = ap (λ v. countFor v 0) (c .refused .ensures) ∙ sym (ap (λ x. countFor (verdictOfSurvivors x) (countOfSurvivors x)) (c .before .before .answer2 .given .1))
 
-pub counted-as-spec : {M : Type 1} → statement M
-counted-as-spec =
+pub count-as-spec : {M : Type 1} → statement M
+count-as-spec =
     tie.close
     (tie.spec enum-known-answer accepts-requires enum-known-answer-2 refused-requires returns returns-2)

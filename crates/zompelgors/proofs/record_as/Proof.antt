@@ -1,4 +1,4 @@
--- `taken_as` meets its contract. Assumes nothing.
+-- `record_as` meets its contract. Assumes nothing.
 use mathlib.Core.Path.{sym, ap, _∙_}
 use Prim.Native.Nat.{ℕ}
 use Rattle.taking.specs.Answers.{saying, takenOf}
@@ -6,8 +6,8 @@ use Rattle.zompelgors.specs.Flat.{recordFor}
 use Rattle.zompelgors.specs.declared.ZgRefusal.{ZgRefusal}
 use Rattle.zompelgors.specs.declared.ZgRecord.{ZgRecord}
 use borrow.Author.Needs.{needs}
-use Rattle.zompelgors.proofs.taken_as.Statement.{statement}
-use Rattle.zompelgors.proofs.taken_as.Tie as tie
+use Rattle.zompelgors.proofs.record_as.Statement.{statement}
+use Rattle.zompelgors.proofs.record_as.Tie as tie
 
 enum-known-answer : tie.Need-enum-known-answer
 enum-known-answer c = search needs
@@ -29,7 +29,7 @@ returns c =
 returns-2 : tie.Need-returns-2
 returns-2 c = ap (λ v. recordFor (saying v 0 0 0)) (c .refused .ensures) ∙ sym (ap (λ x. recordFor (takenOf x)) (c .before .before .answer2 .given .1))
 
-pub taken-as-spec : {M : Type 1} → statement M
-taken-as-spec =
+pub record-as-spec : {M : Type 1} → statement M
+record-as-spec =
     tie.close
     (tie.spec enum-known-answer accepts-requires enum-known-answer-2 refused-requires returns returns-2)

@@ -1,4 +1,4 @@
--- `based_as` meets its contract. Assumes nothing.
+-- `base_as` meets its contract. Assumes nothing.
 use mathlib.Core.Path.{sym, ap, _∙_}
 use Prim.Native.Nat.{ℕ}
 use Rattle.starting_again.specs.Answers.{rebasedOf}
@@ -6,8 +6,8 @@ use Rattle.zompelgors.specs.Flat.{baseFor}
 use Rattle.zompelgors.specs.declared.ZgRefusal.{ZgRefusal}
 use Rattle.zompelgors.specs.declared.ZgBase.{ZgBase}
 use borrow.Author.Needs.{needs}
-use Rattle.zompelgors.proofs.based_as.Statement.{statement}
-use Rattle.zompelgors.proofs.based_as.Tie as tie
+use Rattle.zompelgors.proofs.base_as.Statement.{statement}
+use Rattle.zompelgors.proofs.base_as.Tie as tie
 
 enum-known-answer : tie.Need-enum-known-answer
 enum-known-answer c = search needs
@@ -25,14 +25,14 @@ returns : tie.Need-returns
 returns c =
     let a = c .before .before .before .before .args in
     let of : ℕ → ℕ → ZgRefusal → ZgBase = λ darts h w. record { refusal = w; darts = darts; h = h } in
-    ap (of _ _) (c .accepts .ensures) ∙ sym (ap (λ x. baseFor (rebasedOf (a .darts) (a .h .0) x)) (c .before .before .answer .given .1))
+    ap (of _ _) (c .accepts .ensures) ∙ sym (ap (λ x. baseFor (rebasedOf (a .sizes) x)) (c .before .before .answer .given .1))
 
 returns-2 : tie.Need-returns-2
 returns-2 c =
     let a = c .before .before .before .before .args in
-    ap (λ v. baseFor (record { verdict = v; darts = a .darts; height = a .h .0 })) (c .refused .ensures) ∙ sym (ap (λ x. baseFor (rebasedOf (a .darts) (a .h .0) x)) (c .before .before .answer2 .given .1))
+    ap (λ v. baseFor (record { verdict = v; darts = a .sizes .darts; height = a .sizes .h .0 })) (c .refused .ensures) ∙ sym (ap (λ x. baseFor (rebasedOf (a .sizes) x)) (c .before .before .answer2 .given .1))
 
-pub based-as-spec : {M : Type 1} → statement M
-based-as-spec =
+pub base-as-spec : {M : Type 1} → statement M
+base-as-spec =
     tie.close
     (tie.spec enum-known-answer accepts-requires enum-known-answer-2 refused-requires returns returns-2)

@@ -1,4 +1,4 @@
--- `read_as` meets its contract. Assumes nothing.
+-- `reading_as` meets its contract. Assumes nothing.
 use mathlib.Core.Path.{sym, ap, _∙_}
 use Prim.Native.Nat.{ℕ}
 use Rattle.maps.specs.Read.{none, unless}
@@ -7,8 +7,8 @@ use Rattle.zompelgors.specs.Flat.{readingFor}
 use Rattle.zompelgors.specs.declared.ZgRefusal.{ZgRefusal}
 use Rattle.zompelgors.specs.declared.ZgReading.{ZgReading}
 use borrow.Author.Needs.{needs}
-use Rattle.zompelgors.proofs.read_as.Statement.{statement}
-use Rattle.zompelgors.proofs.read_as.Tie as tie
+use Rattle.zompelgors.proofs.reading_as.Statement.{statement}
+use Rattle.zompelgors.proofs.reading_as.Tie as tie
 
 enum-known-answer : tie.Need-enum-known-answer
 enum-known-answer c = search needs
@@ -30,7 +30,7 @@ returns c =
 returns-2 : tie.Need-returns-2
 returns-2 c = ap (λ v. readingFor (unless v (none 0 0 0 0))) (c .refused .ensures) ∙ sym (ap (λ x. readingFor (valueOf x)) (c .before .before .answer2 .given .1))
 
-pub read-as-spec : {M : Type 1} → statement M
-read-as-spec =
+pub reading-as-spec : {M : Type 1} → statement M
+reading-as-spec =
     tie.close
     (tie.spec enum-known-answer accepts-requires enum-known-answer-2 refused-requires returns returns-2)

@@ -1,4 +1,4 @@
--- `linked_as` meets its contract. Assumes nothing.
+-- `link_as` meets its contract. Assumes nothing.
 use mathlib.Core.Path.{sym, ap, _∙_}
 use Prim.Native.Nat.{ℕ}
 use Rattle.maps.specs.Read.{none, unless}
@@ -7,8 +7,8 @@ use Rattle.zompelgors.specs.Flat.{linkFor}
 use Rattle.zompelgors.specs.declared.ZgRefusal.{ZgRefusal}
 use Rattle.zompelgors.specs.declared.ZgLink.{ZgLink}
 use borrow.Author.Needs.{needs}
-use Rattle.zompelgors.proofs.linked_as.Statement.{statement}
-use Rattle.zompelgors.proofs.linked_as.Tie as tie
+use Rattle.zompelgors.proofs.link_as.Statement.{statement}
+use Rattle.zompelgors.proofs.link_as.Tie as tie
 
 enum-known-answer : tie.Need-enum-known-answer
 enum-known-answer c = search needs
@@ -30,7 +30,7 @@ returns c =
 returns-2 : tie.Need-returns-2
 returns-2 c = ap (λ v. linkFor (unless v (none 0 0 0 0)) 0) (c .refused .ensures) ∙ sym (ap (λ x. linkFor (valueOf x) (standsSince x)) (c .before .before .answer2 .given .1))
 
-pub linked-as-spec : {M : Type 1} → statement M
-linked-as-spec =
+pub link-as-spec : {M : Type 1} → statement M
+link-as-spec =
     tie.close
     (tie.spec enum-known-answer accepts-requires enum-known-answer-2 refused-requires returns returns-2)

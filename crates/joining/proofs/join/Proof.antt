@@ -1,4 +1,4 @@
--- `joining::join_pair` meets its contract: Λ is written last, when all is tested. Assumes nothing.
+-- `joining::join` meets its contract: Λ is written last, when all is tested. Assumes nothing.
 use mathlib.Core.Path.{_≡_, refl, sym, ap, _∙_}
 use Prim.Native.Nat.{suc, _<_}
 use native.Mathlib.Omega.{arith}
@@ -15,8 +15,8 @@ use Rattle.answers.proofs.Refusals.{told}
 use Rattle.checking.specs.Checked.{earlyOf}
 use Rattle.checking.proofs.PyramidCheck.{early-passed}
 use Rattle.joining.proofs.Whole.{check-refused, early-refused, no-two, climb-refused, lowered}
-use Rattle.joining.proofs.join_pair.Statement.{statement}
-use Rattle.joining.proofs.join_pair.Tie as tie
+use Rattle.joining.proofs.join.Statement.{statement}
+use Rattle.joining.proofs.join.Tie as tie
 
 -- the entry, from the level's test; that test, from the check and from 1 to 8; and these, from the climb
 abbrev start : tie.After-no-pair → tie.Start
@@ -96,8 +96,8 @@ returns-5 c =
     lowered (P n) (now (a .table)) (a .level .0) (pair (two (tests e))) (fine e) (told (x .climb .ensures .0) (t .enum-told3 .given .1))
     (j .join-lambda .ensures ∙ ap (listed (joinΛ (a .level .0) (each (now (a .lambda))))) long) (x .climb .ensures .1)
 
-pub join-pair-spec : {M : Type 1} → statement M
-join-pair-spec =
+pub join-spec : {M : Type 1} → statement M
+join-spec =
     tie.close
     (tie.spec
     (λ c κs. search needs)
