@@ -27,12 +27,14 @@ struct implementation {
     __typeof__(&plain_check_base) check_base;
     __typeof__(&plain_marks_of) marks_of;
     __typeof__(&plain_row) row;
+    __typeof__(&plain_unfold_all) unfold_all;
 };
 
 /* The jobs in the order of the struct, by the beginning of their names; the C has two ways to read by levels. */
 #define JOBS(p, by_levels)                                                                                             \
     p##check, p##add, p##unfold, p##read, by_levels, p##mark_cells, p##take, p##write, p##decimation, p##import,       \
-        p##export, p##regions, p##join, p##rebase, p##survivors, p##census, p##check_base, p##marks_of, p##row
+        p##export, p##regions, p##join, p##rebase, p##survivors, p##census, p##check_base, p##marks_of, p##row, \
+        p##unfold_all
 
 static const struct implementation implementations[] = {
     {"library", JOBS(zg_, zg_read_by_levels)},
@@ -49,7 +51,9 @@ static uint16_t edges[2048], vertices[2048], base[3 * 4096], partner_edges[2048]
 static unsigned partner_darts; /* half of the map's, an even number */
 static uint8_t lambda[ZG_MOST_DARTS], delta[ZG_MOST_DARTS], joined[ZG_MOST_DARTS];
 static uint64_t words[64];
-static uint16_t cells[ZG_CELLS];
+static uint16_t cells[ZG_CELLS], tables[ZG_LEVELS * ZG_MOST_ENTRIES];
+static uint32_t counts[ZG_LEVELS];
+static uint8_t since[ZG_LEVELS];
 static int32_t sums[ZG_SUMS];
 static unsigned record_len;
 static size_t len; /* of rows and tables */
@@ -178,6 +182,12 @@ static void run_census(const struct implementation *by)
     refusals += by->census(PYRAMID, table, len, cells, ZG_CELLS, sums, ZG_SUMS).number;
 }
 
+/* With its check. */
+static void run_all(const struct implementation *by)
+{
+    refusals += by->unfold_all(PYRAMID, tables, (map.h + 1u) * len, counts, ZG_LEVELS, since, ZG_LEVELS).number;
+}
+
 static void run_base(const struct implementation *by)
 {
     refusals += by->check_base(map.n, map.darts, map.rows, len).number;
@@ -212,7 +222,7 @@ static const struct job jobs[] = {
     {"rebase", run_rebase},     {"survivors", run_survivors}, {"decimation", run_decimation},
     {"join", run_join},         {"census", run_census},       {"import", run_import},
     {"export", run_export},     {"base", run_base},           {"marks", run_marks},
-    {"row", run_row},
+    {"row", run_row},           {"unfoldall", run_all},
 };
 
 /* ---------------------------------------------------------------- what is lent */
@@ -276,6 +286,9 @@ static void set_up(const char *name)
     memset(cells, 0, sizeof cells);
     memset(sums, 0, sizeof sums);
     memset(names, 0, sizeof names);
+    memset(tables, 0, sizeof tables);
+    memset(counts, 0, sizeof counts);
+    memset(since, 0, sizeof since);
     memset(written, 0, sizeof written);
     make_partner();
     memset(joined, 0, sizeof joined);

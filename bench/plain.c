@@ -565,6 +565,116 @@ zg_unfolding plain_unfold(uint8_t n, uint16_t darts, uint8_t h, const uint16_t *
     return r;
 }
 
+/* Takes a kernel out of the table and carries along what each link reads and since which level it stands: a link that
+ * leads into the kernel reads what those read that it is made of. It reads the same from both ends. The darts of the
+ * kernel read nothing any more. */
+static void carry_kernel(unsigned n, unsigned darts, unsigned level, uint16_t *table, const uint16_t *mark,
+                         const uint16_t *kernel, unsigned size, const struct way *ways, uint16_t *reads, uint8_t *stands)
+{
+    for (unsigned k = 0; k < size; k++) {
+        unsigned met = kernel[k], own = mark[met], row = ways[own % WAYS].own;
+        uint16_t *a = table + row;
+        unsigned survivor = a[met];
+        if (same_kernel(mark[survivor], own) || a[survivor] != met)
+            continue;
+        unsigned sum = reads[row + survivor];
+        do {
+            unsigned other = ways[mark[met] % WAYS].other, past = table[other + met];
+            sum += reads[other + met] + reads[row + past];
+            met = a[past];
+        } while (same_kernel(mark[met], own));
+        a[survivor] = (uint16_t)met;
+        a[met] = (uint16_t)survivor;
+        reads[row + survivor] = reads[row + met] = (uint16_t)sum;
+        stands[row + survivor] = stands[row + met] = (uint8_t)(level + 1);
+    }
+    for (unsigned i = 0; i <= n; i++)
+        for (unsigned k = 0; k < size; k++) {
+            unsigned at = i * darts + kernel[k];
+            table[at] = ZG_ABSENT;
+            reads[at] = 0;
+            stands[at] = 0;
+        }
+}
+
+static uint32_t sum_reads(const uint16_t *reads, size_t len)
+{
+    uint32_t sum = 0;
+    for (size_t k = 0; k < len; k++)
+        sum += reads[k];
+    return sum;
+}
+
+static uint8_t latest_of(const uint8_t *stands, size_t len)
+{
+    uint8_t latest = 0;
+    for (size_t k = 0; k < len; k++)
+        latest = stands[k] > latest ? stands[k] : latest;
+    return latest;
+}
+
+/* Every level out of the one below, in its own block. */
+static zg_refusal climb_blocks(unsigned n, unsigned darts, unsigned h, const uint16_t *mark, uint16_t *tables,
+                               uint32_t *counts, uint8_t *since)
+{
+    uint16_t order[ZG_MOST_DARTS], reads[ZG_MOST_ENTRIES];
+    uint8_t stands[ZG_MOST_ENTRIES];
+    unsigned start[35];
+    size_t len = (size_t)(n + 1) * darts;
+    struct way ways[WAYS];
+    list_ways(n, darts, ways);
+    sort_by_kernel(darts, mark, order, start);
+    for (size_t k = 0; k < len; k++)
+        reads[k] = 1;
+    memset(stands, 0, len);
+    counts[0] = (uint32_t)len;
+    for (unsigned l = 0; l < h; l++) {
+        uint16_t *table = tables + l * len;
+        const uint16_t *kernel = order + start[l];
+        unsigned size = start[l + 1] - start[l];
+        zg_refusal r = check_kernel(n, darts, l, table, mark, kernel, size, ways);
+        if (r.number)
+            return r;
+        memcpy(table + len, table, len * sizeof *table);
+        carry_kernel(n, darts, l, table + len, mark, kernel, size, ways, reads, stands);
+        counts[l + 1] = sum_reads(reads, len);
+        since[l + 1] = latest_of(stands, len);
+    }
+    return RESULT(zg_refusal, 0);
+}
+
+/* Counts and levels since which are kept apart until all kernels are accepted. */
+zg_refusal plain_unfold_all(uint8_t n, uint16_t darts, uint8_t h, const uint16_t *rows, size_t rows_len,
+                            const uint8_t *lambda, size_t lambda_len, const uint8_t *delta, size_t delta_len,
+                            uint16_t *tables, size_t tables_len, uint32_t *counts, size_t counts_len, uint8_t *since,
+                            size_t since_len)
+{
+    unsigned bad = bad_size(n, darts, h);
+    if (bad)
+        return RESULT(zg_refusal, bad);
+    size_t len = (size_t)(n + 1) * darts;
+    if (rows_len != len || lambda_len != darts || delta_len != darts || tables_len != (h + 1u) * len ||
+        counts_len != ZG_LEVELS || since_len != ZG_LEVELS)
+        return RESULT(zg_refusal, 4);
+    zg_refusal r = check_rows(n, darts, rows);
+    if (r.number)
+        return r;
+    unsigned unfit = first_unfit(n, darts, h, lambda, delta);
+    if (unfit < darts)
+        return RESULT(zg_refusal, 8, 0, 0, unfit);
+    uint16_t mark[ZG_MOST_DARTS];
+    uint32_t all_counts[ZG_LEVELS] = {0};
+    uint8_t all_since[ZG_LEVELS] = {0};
+    memcpy(tables, rows, len * sizeof *rows);
+    join_marks(darts, lambda, delta, mark);
+    r = climb_blocks(n, darts, h, mark, tables, all_counts, all_since);
+    if (r.number)
+        return r;
+    memcpy(counts, all_counts, sizeof all_counts);
+    memcpy(since, all_since, sizeof all_since);
+    return r;
+}
+
 zg_part plain_row(uint8_t n, uint16_t darts, uint8_t h, const uint16_t *base, size_t base_len,
                   const uint16_t *unfolded, size_t unfolded_len, uint8_t level, uint8_t involution)
 {

@@ -17,6 +17,7 @@ __typeof__(zg_marks_of) plain_marks_of;
 __typeof__(zg_read) plain_read;
 __typeof__(zg_read_by_levels) plain_read_by_levels;
 __typeof__(zg_unfold) plain_unfold;
+__typeof__(zg_unfold_all) plain_unfold_all;
 __typeof__(zg_row) plain_row;
 __typeof__(zg_survivors) plain_survivors;
 __typeof__(zg_mark_cells) plain_mark_cells;

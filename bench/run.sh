@@ -18,7 +18,7 @@ BUILD=${BUILD:-target/bench} CPU=${CPU:-qemu64}
 [ -n "${JOBS:-}${MAPS:-}" ] || [ "$LIB" = c ] || PLOTS=${PLOTS-docs/figures}
 PLOTS=${PLOTS:-}
 maps=${MAPS:-"grid2 grid3 path32 grid4 strip voxels both1 both2 both3 both4 cycle vertex"}
-jobs=${JOBS:-"check add unfold read bylevels mark take write regions rebase survivors decimation census import export join base marks row"}
+jobs=${JOBS:-"check add unfold read bylevels mark take write regions rebase survivors decimation census import export join base marks row unfoldall"}
 
 need_compiler
 [ "$LIB" != c ] || need "$binutils" "$OBJCOPY" --version
@@ -94,6 +94,7 @@ limit() {
     bylevels/path32 | bylevels/both1) echo 1.70 ;;
     bylevels/*) echo 1.50 ;;
     read/*) echo 1.00 ;;
+    unfoldall/*) echo 1.30 ;;
     *) echo 1.20 ;;
     esac
 }

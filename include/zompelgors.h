@@ -30,7 +30,7 @@ extern "C" {
  * when neither is seen from here.
  */
 #define ZG_VERSION_MAJOR 6
-#define ZG_VERSION_MINOR 2
+#define ZG_VERSION_MINOR 3
 #define ZG_VERSION_PATCH 0
 #define ZG_VERSION (ZG_VERSION_MAJOR * 65536 + ZG_VERSION_MINOR * 256 + ZG_VERSION_PATCH)
 
@@ -44,6 +44,7 @@ extern "C" {
 #define ZG_WORDS 64          /* survivor words */
 #define ZG_CELLS 165         /* counts of a census: 33 rows of 5 */
 #define ZG_SUMS 33           /* sums of a census */
+#define ZG_LEVELS 33         /* levels at most: counts, and levels since which, of unfolding all */
 #define ZG_ABSENT 65535      /* in an explicit level every entry of a dart that is removed or contracted */
 #define ZG_STAY 255          /* in a mark row: the dart stays */
 #define ZG_CONTRACT 8        /* in marks and delta: ZG_CONTRACT + d, 9 to 8+n, is a contraction of dimension d */
@@ -69,6 +70,9 @@ extern "C" {
  *   vertices for each of its darts the next around its vertex
  *   old      for each dart of a new base its number in the old one: N entries
  *   names    for each dart the name of its region: N entries (zompelgors_regions.h)
+ *   tables   all explicit levels, one behind the other, level 0 first: (h+1)(n+1)N entries
+ *   counts   for each level the base entries that unfolding it reads, ZG_LEVELS entries
+ *   since    for each level since which level all its links stand, ZG_LEVELS entries
  *
  * Every length is in entries, not bytes, and must be exact (what zg_take writes to and the buffer of zg_write alone may
  * be longer). A pointer must be aligned as its type asks and good for the length that is given with it, also where that
@@ -78,10 +82,11 @@ extern "C" {
  *
  * 'Lent to read' is const and stays as it is. 'Lent to change' is read and written: lambda and delta of zg_add, lambda
  * of zg_join, rows, lambda and delta of zg_rebase. 'Lent to write' is not read: whatever table, marks, words, cells,
- * sums, bytes, names, old, edges, vertices and rows held before makes no difference where they are lent to write.
+ * sums, bytes, names, old, edges, vertices, tables, counts, since and rows held before makes no difference where they
+ * are lent to write.
  *
  * Nothing is allocated and nothing is kept between calls, so calls may run at once on several threads where none writes
- * what another is lent. zg_census takes the most stack, about 26 KiB.
+ * what another is lent. zg_unfold_all takes the most stack, about 89 KiB; no other function takes more than 31 KiB.
  *
  * What is returned
  *
@@ -349,6 +354,21 @@ zg_reading zg_read_by_levels(uint8_t n, uint16_t darts, uint8_t h, const uint16_
 zg_unfolding zg_unfold(uint8_t n, uint16_t darts, uint8_t h, const uint16_t *rows, size_t rows_len,
                        const uint8_t *lambda, size_t lambda_len, const uint8_t *delta, size_t delta_len,
                        uint8_t level, uint16_t *table, size_t table_len) ZG_MUST_LOOK;
+
+/*
+ * Checks a whole pyramid and unfolds all its levels. Lent to read: rows, (n+1)N; lambda, N; delta, N. Lent to write:
+ * tables, (h+1)(n+1)N; counts, ZG_LEVELS; since, ZG_LEVELS.
+ * Accepted: block l of tables, the (n+1)N entries from entry l(n+1)N on, holds the explicit level l; counts and since
+ * hold at l the count and the since that zg_unfold answers for level l, and 0 above level h.
+ * Refused DIMENSION, DARTS, HEIGHT, LENGTH (of tables, counts and since too), STRAYS, NOT_TWICE, NOT_COMMUTING, MARKS,
+ * NOT_WHOLE, NOT_REMOVABLE as zg_check. After NOT_WHOLE or NOT_REMOVABLE blocks 0 to the level whose kernel failed hold
+ * these levels, and all else is as found; after any other nothing lent has changed.
+ * After a check: LENGTH of tables, counts or since.
+ */
+zg_refusal zg_unfold_all(uint8_t n, uint16_t darts, uint8_t h, const uint16_t *rows, size_t rows_len,
+                         const uint8_t *lambda, size_t lambda_len, const uint8_t *delta, size_t delta_len,
+                         uint16_t *tables, size_t tables_len, uint32_t *counts, size_t counts_len,
+                         uint8_t *since, size_t since_len) ZG_MUST_LOOK;
 
 /*
  * Says where a row of a level lies; no entry is read or copied. Lent: base, (n+1)N, the base rows; unfolded, (n+1)N,

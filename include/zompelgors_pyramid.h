@@ -20,6 +20,9 @@
 #define ZG_ENTRIES(n, darts) (((n) + 1u) * (darts))
 #define ZG_RECORD_BYTES(n, darts) (7u + ((n) + 1u) * (3u + 2u * (darts)) + 2u * (3u + (darts)))
 #define ZG_CELL_AT(level, dimension) (5u * (level) + (dimension))
+/* Entries of all levels, and the place at which one of them begins. */
+#define ZG_ALL_ENTRIES(n, darts, h) (((h) + 1u) * ZG_ENTRIES(n, darts))
+#define ZG_LEVEL_AT(n, darts, level) ((level) * ZG_ENTRIES(n, darts))
 
 /* A pyramid in folded form: its sizes, and memory with its room in entries. Rows come first, (n+1)N entries. */
 typedef struct {
@@ -36,7 +39,14 @@ typedef struct {
     uint16_t cells[ZG_CELLS];
 } zg_counts;
 
-/* Room for the largest of everything, some 165 KiB: it is made static or allocated, and not on a small stack. */
+/* What unfolding all levels reads of each, and since which level its links stand. */
+typedef struct {
+    uint32_t counts[ZG_LEVELS];
+    uint8_t since[ZG_LEVELS];
+} zg_links;
+
+/* Room for the largest of everything but all levels at once, some 165 KiB: it is made static or allocated, and not on a
+ * small stack. */
 typedef struct {
     uint64_t words[ZG_WORDS];
     zg_counts counts;
@@ -264,6 +274,16 @@ ZG_MUST_LOOK static inline zg_unfolding zg_pyramid_unfold(const zg_pyramid *p, u
 {
     zg_nothing nothing = {0};
     return zg_unfold(ZG_LEND_PYRAMID, level, ZG_LEND_TABLE);
+}
+
+/* zg_unfold_all; level l begins at entry ZG_LEVEL_AT(n, N, l) of the tables. */
+ZG_MUST_LOOK static inline zg_refusal zg_pyramid_unfold_all(const zg_pyramid *p, uint16_t *tables, size_t tables_room,
+                                                            zg_links *links)
+{
+    zg_nothing nothing = {0};
+    size_t each = zg_pyramid_entries(p), due = each + each * p->h;
+    return zg_unfold_all(ZG_LEND_PYRAMID, ZG_LEND_HALVES(tables, tables_room, due), links->counts, ZG_LEVELS,
+                         links->since, ZG_LEVELS);
 }
 
 /* zg_row, with the table that holds the level; zg_pyramid_row_at has the row itself. */

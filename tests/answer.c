@@ -39,6 +39,8 @@ static void *list(size_t *len, size_t size)
             memory[k] = (uint8_t)v;
         else if (size == 2)
             ((uint16_t *)memory)[k] = (uint16_t)v;
+        else if (size == 4)
+            ((uint32_t *)memory)[k] = (uint32_t)v;
         else
             ((uint64_t *)memory)[k] = v;
     }
@@ -84,6 +86,9 @@ static void read_item(struct call *c, char item)
     case 'V': c->vertices = list(&c->vertices_len, 2); break;
     case 'N': c->names = list(&c->names_len, 2); break;
     case 'O': c->old = list(&c->old_len, 2); break;
+    case 'A': c->tables = list(&c->tables_len, 2); break;
+    case 'K': c->counts = list(&c->counts_len, 4); break;
+    case 'G': c->since = list(&c->since_len, 1); break;
     }
 }
 
@@ -112,6 +117,13 @@ static void print_u8(const uint8_t *list, size_t len)
 }
 
 static void print_u16(const uint16_t *list, size_t len)
+{
+    printf(" %zu", len);
+    for (size_t k = 0; k < len; k++)
+        printf(" %u", list[k]);
+}
+
+static void print_u32(const uint32_t *list, size_t len)
 {
     printf(" %zu", len);
     for (size_t k = 0; k < len; k++)
@@ -157,6 +169,9 @@ static void print_answer(const struct call *c)
         case 'V': print_u16(c->vertices, c->vertices_len); break;
         case 'N': print_u16(c->names, c->names_len); break;
         case 'O': print_u16(c->old, c->old_len); break;
+        case 'A': print_u16(c->tables, c->tables_len); break;
+        case 'K': print_u32(c->counts, c->counts_len); break;
+        case 'G': print_u8(c->since, c->since_len); break;
         }
     putchar('\n');
 }
@@ -176,6 +191,9 @@ static void free_call(struct call *c)
     free(c->sums);
     free(c->names);
     free(c->old);
+    free(c->tables);
+    free(c->counts);
+    free(c->since);
 }
 
 int main(void)

@@ -18,20 +18,20 @@ const char *const job_names[JOBS] = {
     [BY_LEVELS] = "bylevels", [UNFOLD] = "unfold", [ROW] = "row", [SURVIVORS] = "survivors", [MARK] = "mark",
     [TAKE] = "take", [WRITE] = "write", [DECIMATION] = "decimation", [IMPORT] = "import", [EXPORT] = "export",
     [CENSUS] = "census", [REGIONS] = "regions", [JOIN] = "join",
-    [REBASE] = "rebase", [LEVELS] = "levels", [CENSUS_PROGRAM] = "census_program"
+    [REBASE] = "rebase", [UNFOLD_ALL] = "unfold_all", [LEVELS] = "levels", [CENSUS_PROGRAM] = "census_program"
 };
 const char *const case_forms[JOBS] = {
     [CHECK_BASE] = "nDR", [CHECK] = "nDhRLET", [ADD] = "nDhRLEMT", [MARKS] = "nDhLElM", [READ] = "nDhRLElid",
     [BY_LEVELS] = "nDhRLElid", [UNFOLD] = "nDhRLElT", [ROW] = "nDhRTli", [SURVIVORS] = "DhLlW", [MARK] = "nDTiM",
     [TAKE] = "BRLET", [WRITE] = "nDhRLETB", [DECIMATION] = "nDhRLETl", [IMPORT] = "DPVR", [EXPORT] = "nDRPV",
     [CENSUS] = "nDhRLETCS", [REGIONS] = "nDhRLETlN", [JOIN] = "nDhRLETl",
-    [REBASE] = "nDhRLETlO", [LEVELS] = "B", [CENSUS_PROGRAM] = "B"
+    [REBASE] = "nDhRLETlO", [UNFOLD_ALL] = "nDhRLEAKG", [LEVELS] = "B", [CENSUS_PROGRAM] = "B"
 };
 const char *const answer_forms[JOBS] = {
     [CHECK_BASE] = "", [CHECK] = "T", [ADD] = "LET", [MARKS] = "M", [READ] = "", [BY_LEVELS] = "", [UNFOLD] = "T",
     [ROW] = "", [SURVIVORS] = "W", [MARK] = "M", [TAKE] = "RLET", [WRITE] = "TB", [DECIMATION] = "FT", [IMPORT] = "R",
-    [EXPORT] = "PV", [CENSUS] = "TCS", [REGIONS] = "TN", [JOIN] = "LT", [REBASE] = "RLETO", [LEVELS] = "",
-    [CENSUS_PROGRAM] = ""
+    [EXPORT] = "PV", [CENSUS] = "TCS", [REGIONS] = "TN", [JOIN] = "LT", [REBASE] = "RLETO",
+    [UNFOLD_ALL] = "AKG", [LEVELS] = "", [CENSUS_PROGRAM] = ""
 };
 
 enum place call_place = BETWEEN_CANARIES;
@@ -47,12 +47,13 @@ struct lent {
 };
 
 enum { IN_ROWS, IN_TABLE, IN_LAMBDA, IN_DELTA, IN_MARKS, IN_BYTES, IN_WORDS, IN_CELLS, IN_SUMS, IN_EDGES,
-       IN_VERTICES, IN_NAMES, IN_OLD, LENTS };
+       IN_VERTICES, IN_NAMES, IN_OLD, IN_TABLES, IN_COUNTS, IN_SINCE, LENTS };
 
 static struct lent lents[LENTS] = {
     {.name = "rows"}, {.name = "table"}, {.name = "lambda"}, {.name = "delta"},
     {.name = "marks"}, {.name = "bytes"}, {.name = "words"}, {.name = "cells"},
     {.name = "sums"}, {.name = "edges"}, {.name = "vertices"}, {.name = "names"}, {.name = "old"},
+    {.name = "tables"}, {.name = "counts"}, {.name = "since"},
 };
 
 static void fail(const struct call *c, const char *what, const char *name)
@@ -130,6 +131,9 @@ static uint16_t *vertices_out(const struct call *c)
     return lend(IN_VERTICES, c->vertices, c->vertices_len, 2, false);
 }
 static uint16_t *old_out(const struct call *c) { return lend(IN_OLD, c->old, c->old_len, 2, false); }
+static uint16_t *tables_out(const struct call *c) { return lend(IN_TABLES, c->tables, c->tables_len, 2, false); }
+static uint32_t *counts_out(const struct call *c) { return lend(IN_COUNTS, c->counts, c->counts_len, 4, false); }
+static uint8_t *since_out(const struct call *c) { return lend(IN_SINCE, c->since, c->since_len, 1, false); }
 
 static bool filled(const unsigned char *guard)
 {
@@ -240,6 +244,19 @@ static void call_unfold(struct call *c)
                                c->lambda_len, delta, c->delta_len, (uint8_t)c->level, table, c->table_len);
     take_refusal(c, r.refusal);
     take_found(c, 2, r.count, r.since, 0);
+}
+
+static void call_unfold_all(struct call *c)
+{
+    const uint16_t *rows = rows_in(c);
+    const uint8_t *lambda = lambda_in(c), *delta = delta_in(c);
+    uint16_t *tables = tables_out(c);
+    uint32_t *counts = counts_out(c);
+    uint8_t *since = since_out(c);
+    zg_refusal r = zg_unfold_all((uint8_t)c->n, (uint16_t)c->darts, (uint8_t)c->h, rows, c->rows_len, lambda,
+                                 c->lambda_len, delta, c->delta_len, tables, c->tables_len, counts, c->counts_len, since,
+                                 c->since_len);
+    take_refusal(c, r);
 }
 
 static void call_row(struct call *c)
@@ -457,8 +474,8 @@ void call_job(struct call *c)
         [READ] = call_read, [BY_LEVELS] = call_by_levels, [UNFOLD] = call_unfold, [ROW] = call_row,
         [SURVIVORS] = call_survivors, [MARK] = call_mark, [TAKE] = call_take, [WRITE] = call_write,
         [DECIMATION] = call_decimation, [IMPORT] = call_import, [EXPORT] = call_export, [CENSUS] = call_census,
-        [REGIONS] = call_regions, [JOIN] = call_join, [REBASE] = call_rebase, [LEVELS] = call_levels,
-        [CENSUS_PROGRAM] = call_census_program,
+        [REGIONS] = call_regions, [JOIN] = call_join, [REBASE] = call_rebase,
+        [UNFOLD_ALL] = call_unfold_all, [LEVELS] = call_levels, [CENSUS_PROGRAM] = call_census_program,
     };
     c->founds = 0;
     c->factor = 0;

@@ -11,14 +11,15 @@ extern "C" {
 
 enum job {
     CHECK_BASE, CHECK, ADD, MARKS, READ, BY_LEVELS, UNFOLD, ROW, SURVIVORS, MARK, TAKE, WRITE, DECIMATION,
-    IMPORT, EXPORT, CENSUS, REGIONS, JOIN, REBASE, LEVELS, CENSUS_PROGRAM, JOBS
+    IMPORT, EXPORT, CENSUS, REGIONS, JOIN, REBASE, UNFOLD_ALL, LEVELS, CENSUS_PROGRAM, JOBS
 };
 
 /*
  * How the vectors write the jobs, in the order of enum job: their names, what a case's line holds, and what stands in
  * the answer behind the refusal and the numbers found. n, N (D), h; rows (R), table (T), lambda (L), delta (E),
- * marks (M), words (W), bytes (B), cells (C), sums (S), edge row (P), vertex row (V), names (N), old numbers (O);
- * level (l), involution or dimension (i), dart (d); the bits of a factor (F).
+ * marks (M), words (W), bytes (B), cells (C), sums (S), edge row (P), vertex row (V), names (N), old numbers (O), tables
+ * of all levels (A) with their counts (K) and the levels since which (G); level (l), involution or dimension (i),
+ * dart (d); the bits of a factor (F).
  */
 extern const char *const job_names[JOBS], *const case_forms[JOBS], *const answer_forms[JOBS];
 
@@ -30,12 +31,13 @@ extern const char *const job_names[JOBS], *const case_forms[JOBS], *const answer
 struct call {
     enum job job;
     unsigned n, darts, h, level, involution, dart;
-    uint16_t *rows, *table, *cells, *edges, *vertices, *names, *old;
-    uint8_t *lambda, *delta, *marks, *bytes;
+    uint16_t *rows, *table, *cells, *edges, *vertices, *names, *old, *tables;
+    uint8_t *lambda, *delta, *marks, *bytes, *since;
+    uint32_t *counts;
     uint64_t *words;
     int32_t *sums;
-    size_t rows_len, table_len, cells_len, edges_len, vertices_len, names_len, old_len;
-    size_t lambda_len, delta_len, marks_len, bytes_len, words_len, sums_len;
+    size_t rows_len, table_len, cells_len, edges_len, vertices_len, names_len, old_len, tables_len;
+    size_t lambda_len, delta_len, marks_len, bytes_len, words_len, sums_len, counts_len, since_len;
 
     unsigned refusal[4]; /* number, level, involution, dart */
     unsigned found[3];   /* in the order of the vectors' answers */

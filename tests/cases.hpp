@@ -14,6 +14,7 @@
 #include <type_traits>
 
 using independent::Bytes;
+using independent::Counts;
 using independent::Entries;
 using independent::Refusal;
 using independent::Sums;
@@ -23,17 +24,19 @@ using independent::Words;
 struct Case {
     job what = CHECK_BASE;
     unsigned n = 0, darts = 0, h = 0, level = 0, involution = 0, dart = 0;
-    Entries rows, table, cells, edges, vertices, names, old;
-    Bytes lambda, delta, marks, bytes;
+    Entries rows, table, cells, edges, vertices, names, old, tables;
+    Bytes lambda, delta, marks, bytes, since;
     Words words;
     Sums sums;
+    Counts counts;
 };
 
 inline bool same_lent(const Case& x, const Case& y)
 {
     return x.rows == y.rows && x.table == y.table && x.lambda == y.lambda && x.delta == y.delta &&
            x.marks == y.marks && x.bytes == y.bytes && x.words == y.words && x.cells == y.cells && x.sums == y.sums &&
-           x.edges == y.edges && x.vertices == y.vertices && x.names == y.names && x.old == y.old;
+           x.edges == y.edges && x.vertices == y.vertices && x.names == y.names && x.old == y.old &&
+           x.tables == y.tables && x.counts == y.counts && x.since == y.since;
 }
 
 struct Answer {
@@ -98,6 +101,9 @@ inline void read_item(std::istream& in, Case& c, char item)
     case 'V': read_list(in, c.vertices); break;
     case 'N': read_list(in, c.names); break;
     case 'O': read_list(in, c.old); break;
+    case 'A': read_list(in, c.tables); break;
+    case 'K': read_list(in, c.counts); break;
+    case 'G': read_list(in, c.since); break;
     }
 }
 
@@ -123,6 +129,9 @@ inline void write_item(std::ostream& out, const Case& c, char item)
     case 'V': write_list(out, c.vertices); break;
     case 'N': write_list(out, c.names); break;
     case 'O': write_list(out, c.old); break;
+    case 'A': write_list(out, c.tables); break;
+    case 'K': write_list(out, c.counts); break;
+    case 'G': write_list(out, c.since); break;
     }
 }
 
@@ -227,6 +236,7 @@ inline void answer_or_throw(Case& c, Answer& a)
         found(a, r.darts, r.h);
         break;
     }
+    case UNFOLD_ALL: by::unfold_all(c.n, c.darts, c.h, c.rows, c.lambda, c.delta, c.tables, c.counts, c.since); break;
     case LEVELS: a.text = by::levels(c.bytes); break;
     case CENSUS: by::census(c.n, c.darts, c.h, c.rows, c.lambda, c.delta, c.table, c.cells, c.sums); break;
     case CENSUS_PROGRAM: a.text = by::census_program(c.bytes); break;
@@ -236,7 +246,7 @@ inline void answer_or_throw(Case& c, Answer& a)
 
 inline Answer answer_independently(Case& c)
 {
-    static const unsigned founds[JOBS] = {0, 0, 1, 0, 3, 2, 2, 3, 1, 0, 3, 1, 1, 0, 0, 0, 0, 1, 2, 0, 0};
+    static const unsigned founds[JOBS] = {0, 0, 1, 0, 3, 2, 2, 3, 1, 0, 3, 1, 1, 0, 0, 0, 0, 1, 2, 0, 0, 0};
     Answer a;
     a.founds = founds[c.what];
     if (c.what == ADD || c.what == JOIN)
@@ -290,6 +300,12 @@ inline Answer answer_by_library(Case& c)
     k.names_len = c.names.size();
     k.old = c.old.data();
     k.old_len = c.old.size();
+    k.tables = c.tables.data();
+    k.tables_len = c.tables.size();
+    k.counts = c.counts.data();
+    k.counts_len = c.counts.size();
+    k.since = c.since.data();
+    k.since_len = c.since.size();
     call_job(&k);
     Answer a;
     if (c.what != LEVELS && c.what != CENSUS_PROGRAM)

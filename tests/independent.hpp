@@ -18,6 +18,7 @@ using Entries = std::vector<std::uint16_t>;
 using Bytes = std::vector<std::uint8_t>;
 using Words = std::vector<std::uint64_t>;
 using Sums = std::vector<std::int32_t>;
+using Counts = std::vector<std::uint32_t>;
 
 constexpr unsigned none = 65535; // every row entry of a dart that is not on an explicit level
 constexpr unsigned stay = 255;   // in a mark row
@@ -764,6 +765,44 @@ inline void census(unsigned n, unsigned darts, unsigned h, const Entries& rows, 
         }
         if (l < h)
             level = reduce(level, kernel_of(lambda, delta, l));
+    }
+}
+
+// ---------------------------------------------------------------- all levels
+
+// The explicit levels one behind the other, made by removal, and what unfolding each answers. Where a kernel fails, the
+// levels up to its own are there all the same.
+inline void unfold_all(unsigned n, unsigned darts, unsigned h, const Entries& rows, const Bytes& lambda,
+                       const Bytes& delta, Entries& tables, Counts& counts, Bytes& since)
+{
+    demand_pyramid_lengths(n, darts, h, rows, lambda, delta);
+    demand_length(tables.size(), (h + 1) * rows.size());
+    demand_length(counts.size(), 33);
+    demand_length(since.size(), 33);
+    Entries table(rows.size());
+    const auto put_levels = [&](unsigned last) {
+        Map level(n, darts, rows);
+        for (unsigned l = 0; l <= last; l++) {
+            level.write(table);
+            std::copy(table.begin(), table.end(), tables.begin() + std::ptrdiff_t(l * rows.size()));
+            if (l < last)
+                level = reduce(level, kernel_of(lambda, delta, l));
+        }
+    };
+    try {
+        check(n, darts, h, rows, lambda, delta, table);
+    } catch (const Refusal& r) {
+        if (r.number == 9 || r.number == 10)
+            put_levels(r.level);
+        throw;
+    }
+    put_levels(h);
+    counts.assign(33, 0);
+    since.assign(33, 0);
+    for (unsigned l = 0; l <= h; l++) {
+        const Unfolding all = unfold(n, darts, h, rows, lambda, delta, l, table);
+        counts[l] = all.total;
+        since[l] = std::uint8_t(all.since);
     }
 }
 

@@ -84,6 +84,9 @@ inline void change_item(Random& r, Case& c, const Case& other, char item)
     case 'V': change_list(r, c.vertices, other.vertices); break;
     case 'N': change_list(r, c.names, other.names); break;
     case 'O': change_list(r, c.old, other.old); break;
+    case 'A': change_list(r, c.tables, other.tables); break;
+    case 'K': change_list(r, c.counts, other.counts); break;
+    case 'G': change_list(r, c.since, other.since); break;
     default: change_number(r, c, item);
     }
 }

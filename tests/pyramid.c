@@ -35,6 +35,34 @@ static size_t file_bytes(const char *path)
     return length;
 }
 
+/* All levels at once, in both rooms; the top one is what a check leaves. */
+static void all_levels(const zg_pyramid *p)
+{
+    static uint16_t tables[ZG_ALL_ENTRIES(4, 4096, 32)], plain[ZG_ALL_ENTRIES(4, 4096, 32)];
+    const size_t N = p->darts, all = zg_pyramid_entries(p), room_of = sizeof tables / sizeof tables[0];
+    zg_links links, others;
+    memset(&links, 1, sizeof links);
+    memcpy(&others, &links, sizeof links);
+    zg_refusal r = zg_pyramid_unfold_all(p, tables, room_of, &links);
+    zg_refusal s = zg_unfold_all(p->n, p->darts, p->h, other.rows, all, other.lambda, N, other.delta, N, plain,
+                                 (p->h + 1u) * all, others.counts, ZG_LEVELS, others.since, ZG_LEVELS);
+    SAME(r, s);
+    HOLDS(!zg_refused(r) && !memcmp(&links, &others, sizeof links) && !memcmp(tables, plain, sizeof tables));
+    r = zg_pyramid_check(p, room.table, ZG_MOST_ENTRIES);
+    HOLDS(!memcmp(tables + ZG_LEVEL_AT(p->n, p->darts, p->h), room.table, 2 * all));
+    for (uint8_t l = 0; l <= p->h; l++) {
+        zg_unfolding u = zg_pyramid_unfold(p, l, room.table, ZG_MOST_ENTRIES);
+        HOLDS(u.count == links.counts[l] && u.since == links.since[l]);
+        HOLDS(!memcmp(tables + l * all, room.table, 2 * all));
+    }
+    for (unsigned l = p->h + 1u; l < ZG_LEVELS; l++)
+        HOLDS(links.counts[l] == 0 && links.since[l] == 0);
+    r = zg_pyramid_unfold_all(p, tables, (p->h + 1u) * all - 1, &links);
+    HOLDS(r.number == ZG_E_LENGTH);
+    r = zg_pyramid_unfold_all(p, NULL, room_of, &links);
+    HOLDS(r.number == ZG_E_LENGTH);
+}
+
 /* Each question with the pyramid in room, and the same with plain arguments in the other. */
 static void questions(const zg_pyramid *p)
 {
@@ -232,6 +260,8 @@ int main(int argc, char **argv)
     if (failed)
         return 1;
     questions(&p);
+    alike();
+    all_levels(&p);
 #ifdef __cplusplus
     vectors(&p);
 #endif

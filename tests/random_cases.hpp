@@ -294,6 +294,9 @@ inline void damage_item(Random& r, Case& c, char item)
     case 'V': damage_partner(r, c, c.vertices); break;
     case 'N': change_length(r, c.names); break;
     case 'O': change_length(r, c.old); break;
+    case 'A': change_length(r, c.tables); break;
+    case 'K': change_length(r, c.counts); break;
+    case 'G': change_length(r, c.since); break;
     }
 }
 
@@ -455,6 +458,11 @@ inline void lend_pyramid(Random& r, Case& c, const Pyramid& source)
     c.sums = junk<Sums>(r, 33);
     c.names = junk<Entries>(r, p.darts);
     c.old = junk<Entries>(r, p.darts);
+    if (c.what == UNFOLD_ALL) {
+        c.tables = junk<Entries>(r, (p.h + 1) * p.rows.size());
+        c.counts = junk<Counts>(r, 33);
+        c.since = junk<Bytes>(r, 33);
+    }
 }
 
 inline void lend_level(Random& r, Case& c, const Pyramid& source)

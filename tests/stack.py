@@ -39,16 +39,22 @@ def taken(line):
     return int(lowered[1], 16) if lowered else 0
 
 
+# a frame of many pages is taken one page after the other, down to r11
+PAGES = re.compile(r"mov +r11,rsp|sub +r11,(0x[0-9a-f]+)|cmp +rsp,r11|jne ")
+
+
 def frame(lines):
     """Return address and what the prologue takes; then the most that is pushed on for one call."""
-    at = 0
-    while taken(lines[at]) or "[rsp],0x0" in lines[at]:
+    at = pages = 0
+    while taken(lines[at]) or "[rsp],0x0" in lines[at] or PAGES.match(lines[at]):
+        down = PAGES.match(lines[at])
+        pages += int(down[1], 16) - 4096 if down and down[1] else 0
         at += 1
     most = passed = 0
     for line in lines[at:]:
         passed = 0 if line.startswith("call") else passed + taken(line)
         most = max(most, passed)
-    return 8 + sum(map(taken, lines[:at])) + most
+    return 8 + sum(map(taken, lines[:at])) + pages + most
 
 
 def callees(lines, functions):

@@ -74,7 +74,7 @@ can() {
 library() {
     if [ "$LIB" = c ]; then
         local job rename=()
-        for job in version check_base check add marks_of read read_by_levels unfold row survivors mark_cells take \
+        for job in version check_base check add marks_of read read_by_levels unfold unfold_all row survivors mark_cells take \
             write decimation census import export regions join rebase; do
             rename+=(--redefine-sym "plain_$job=zg_$job")
         done

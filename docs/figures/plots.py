@@ -6,7 +6,7 @@ from answers import FIGURES
 from svg import Picture
 
 # where a job of the bench and its function have two names
-FUNCTIONS = {"bylevels": "zg_read_by_levels", "mark": "zg_mark_cells", "base": "zg_check_base", "marks": "zg_marks_of"}
+FUNCTIONS = {"bylevels": "zg_read_by_levels", "mark": "zg_mark_cells", "base": "zg_check_base", "marks": "zg_marks_of", "unfoldall": "zg_unfold_all"}
 WITHOUT_CHECK = {"take", "write", "decimation", "census", "regions", "rebase"}
 DOTTED = ' stroke-dasharray="3 5"'
 STARRED = "* without the check that it begins or ends with"

@@ -76,6 +76,17 @@ class Pyramids(unittest.TestCase):
         with self.assertRaises(z.Refused):
             segment.rebase(1)
 
+    def test_all_levels(self):
+        for name in ("star.record", "pipe.record", "segment.record"):
+            pyramid = z.Pyramid.open(sample(name))
+            levels = pyramid.levels()
+            self.assertEqual(levels, [pyramid.unfold(level) for level in range(pyramid.height + 1)])
+            all_levels = z.unfold_all(*pyramid._lent)
+            self.assertEqual(list(all_levels.counts[len(levels) :]), [0] * (z.LEVELS - len(levels)))
+        with self.assertRaises(z.Refused) as refused:
+            z.Pyramid(1, 1, SQUARE, [1, 0, *[1] * 6], [1, 0, *[1] * 6]).levels()
+        self.assertEqual(refused.exception.fields, (9, 0, 1, 1))
+
     def test_partner(self):
         edges, vertices = [1, 0, 3, 2, 5, 4], [2, 1, 4, 3, 0, 5]
         star = z.Pyramid.from_map(edges, vertices)

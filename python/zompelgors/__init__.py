@@ -9,6 +9,7 @@ from .jobs import (
     ABSENT,
     CELLS,
     CONTRACT,
+    LEVELS,
     MOST_DARTS,
     MOST_ENTRIES,
     MOST_HEIGHT,
@@ -18,6 +19,7 @@ from .jobs import (
     STAY,
     SUMS,
     WORDS,
+    AllLevels,
     Base,
     Census,
     Link,
@@ -45,11 +47,12 @@ from .jobs import (
     survivors,
     take,
     unfold,
+    unfold_all,
     version,
     write,
 )
 from .pyramid import Cells, Pyramid
 from .refusals import Number, Refused
 
-__version__ = "6.2.0"
+__version__ = "6.3.0"
 __all__ = [name for name in dir() if not name.startswith("_") and name not in ("jobs", "pyramid", "refusals")]

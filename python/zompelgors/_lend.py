@@ -35,6 +35,7 @@ _release.argtypes, _release.restype = [ctypes.POINTER(_View)], None
 _KINDS = {
     "B": (1, "B", "bytes"),
     "H": (2, "H", "16-bit numbers"),
+    "I": (4, "IL", "32-bit numbers"),
     "Q": (8, "QLN", "64-bit numbers"),
     "i": (4, "il", "signed 32-bit numbers"),
 }

@@ -8,8 +8,8 @@ import pathlib
 
 U8, U16, U32, I32 = ctypes.c_uint8, ctypes.c_uint16, ctypes.c_uint32, ctypes.c_int32
 NAME = "libzompelgors.so"
-# The version of the interface that this module is written for.
-MAJOR = 6
+# The version of the interface that this module is written for; a later minor one serves too.
+MAJOR, MINOR = 6, 3
 
 
 def _answer(name: str, *fields: tuple[str, type]) -> type[ctypes.Structure]:
@@ -48,6 +48,7 @@ FUNCTIONS = {
     "read": (Link, _QUESTION),
     "read_by_levels": (Reading, _QUESTION),
     "unfold": (Unfolding, [*_PYRAMID, U8, *_SLICE]),
+    "unfold_all": (Refusal, [*_PYRAMID, *_SLICE * 3]),
     "row": (Part, [U8, U16, U8, *_SLICE * 2, U8, U8]),
     "survivors": (Count, [U16, U8, *_SLICE, U8, *_SLICE]),
     "mark_cells": (Refusal, [U8, U16, *_SLICE, U8, *_SLICE]),
@@ -78,11 +79,13 @@ def places() -> list[str]:
 def load() -> ctypes.CDLL:
     """The library, with its functions declared."""
     library = _open()
+    library.zg_version.restype, library.zg_version.argtypes = FUNCTIONS["version"]
+    found = library.zg_version()
+    if found >> 16 != MAJOR or found >> 8 & 255 < MINOR:
+        raise ImportError(f"{library._name} is of version {version_text(found)}, and {MAJOR}.{MINOR} or later is needed")
     for name, (answer, asked) in FUNCTIONS.items():
         function = getattr(library, "zg_" + name)
         function.restype, function.argtypes = answer, asked
-    if library.zg_version() >> 16 != MAJOR:
-        raise ImportError(f"{library._name} is of version {version_text(library.zg_version())}, and {MAJOR} is needed")
     return library
 
 
@@ -97,5 +100,5 @@ def _open() -> ctypes.CDLL:
 
 
 def version_text(version: int) -> str:
-    """6.2.0, of the number that the library gives."""
+    """6.3.0, of the number that the library gives."""
     return f"{version >> 16}.{version >> 8 & 255}.{version & 255}"

@@ -32,6 +32,7 @@ MOST_RECORD = 49_180
 WORDS = 64
 CELLS = 165
 SUMS = 33
+LEVELS = 33
 
 _BYTE, _TWO = 255, 65_535
 
@@ -57,6 +58,15 @@ class Unfolding(NamedTuple):
     count: int  # type: ignore[assignment]
     since: int
     table: Any
+
+
+class AllLevels(NamedTuple):
+    """All explicit levels, one behind the other, level 0 first; 33 counts of base entries read, and 33 levels since which
+    all links of a level stand."""
+
+    tables: Any
+    counts: Any
+    since: Any
 
 
 class Survivors(NamedTuple):
@@ -146,8 +156,8 @@ class _Call:
 
 
 def _room(lent: Optional[Writable], kind: str, length: int) -> Any:
-    """What is lent to be written, or room of our own."""
-    return zeros(kind, min(length, MOST_ENTRIES)) if lent is None else lent
+    """What is lent to be written, or room of our own: of all levels at most."""
+    return zeros(kind, min(length, LEVELS * MOST_ENTRIES)) if lent is None else lent
 
 
 def _entries(n: int, darts: int) -> int:
@@ -155,7 +165,7 @@ def _entries(n: int, darts: int) -> int:
 
 
 def version() -> str:
-    """The version of the library, as 6.2.0."""
+    """The version of the library, as 6.3.0."""
     return version_text(load().zg_version())
 
 
@@ -256,6 +266,26 @@ def unfold(
         call.sizes(n, darts, h).folded(rows, lambda_, delta).number("level", level)
         found = call.table(room).answer()
         return Unfolding(found.count, found.since, room)
+
+
+def unfold_all(
+    n: int,
+    darts: int,
+    h: int,
+    rows: Readable,
+    lambda_: Readable,
+    delta: Readable,
+    tables: Optional[Writable] = None,
+    counts: Optional[Writable] = None,
+    since: Optional[Writable] = None,
+) -> AllLevels:
+    """Checks a whole pyramid and unfolds all its levels."""
+    room = _room(tables, "H", (whole("h", h, _BYTE) + 1) * _entries(n, darts))
+    found = AllLevels(room, _room(counts, "I", LEVELS), _room(since, "B", LEVELS))
+    with _Call("unfold_all") as call:
+        call.sizes(n, darts, h).folded(rows, lambda_, delta).write("tables", found.tables, "H")
+        call.write("counts", found.counts, "I").write("since", found.since, "B").answer()
+    return found
 
 
 def row(

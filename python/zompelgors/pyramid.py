@@ -3,7 +3,7 @@ from __future__ import annotations
 
 import os
 import pathlib
-from typing import TYPE_CHECKING, Any, Iterator, NamedTuple, Optional, Union
+from typing import TYPE_CHECKING, Any, NamedTuple, Optional, Union
 
 from . import jobs
 from ._lend import copied, fits, whole, zeros
@@ -175,9 +175,12 @@ class Pyramid:
         """For each dart of the base the name of its region on a level."""
         return jobs.regions(*self._lent, level)
 
-    def levels(self) -> Iterator[Unfolding]:
-        """All levels written out, one after the other."""
-        return (self.unfold(level) for level in range(self.height + 1))
+    def levels(self) -> list[Unfolding]:
+        """Checks the whole pyramid: all levels written out, level 0 first."""
+        tables, counts, since = jobs.unfold_all(*self._lent)
+        each = len(tables) // (self.height + 1)
+        blocks = (tables[at : at + each] for at in range(0, len(tables), each))
+        return [Unfolding(*found) for found in zip(counts, since, blocks)]
 
     def partner(self) -> Partner:
         """The partner's two rows that yield its base."""

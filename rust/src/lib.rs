@@ -96,6 +96,9 @@ pub const WORDS: usize = 64;
 /// How many rows of five counts, and how many sums, a census has: one for each level that there may be.
 pub const SUMS: usize = 33;
 
+/// How many levels there may be: so many counts, and levels since which, [`Pyramid::unfold_all`] answers.
+pub const LEVELS: usize = 33;
+
 /// The version of the library: 65,536 times its major number, 256 times its minor one, and its patch.
 #[must_use]
 pub fn version() -> u32 {

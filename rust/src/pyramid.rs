@@ -1,6 +1,6 @@
 //! A folded pyramid, borrowed, and the jobs that take one.
 use crate::answers::{Dimension, Factor, Level, Link, Reading, Refusal, Unfolding};
-use crate::{raw, SUMS};
+use crate::{raw, LEVELS, SUMS};
 
 /// The question, put to one of the two readings.
 macro_rules! ask {
@@ -227,6 +227,44 @@ impl<'a> Pyramid<'a> {
             count: r.count,
             since: Level(r.since),
         })
+    }
+
+    /// Checks the whole pyramid and unfolds all its levels, one behind the other, level 0 first: the tables have h + 1
+    /// times as many entries as the rows. `counts[l]` and `since[l]` are what [`Pyramid::unfold`] answers for level `l`,
+    /// and 0 above the height.
+    ///
+    /// # Errors
+    ///
+    /// 1 to 10 as [`Pyramid::check`], 4 of the tables too. After 9 or 10 the tables hold the levels up to the one whose
+    /// kernel failed, and all else is as it was; after any other number nothing has changed.
+    pub fn unfold_all(
+        &self,
+        tables: &mut [u16],
+        counts: &mut [u32; LEVELS],
+        since: &mut [u8; LEVELS],
+    ) -> Result<(), Refusal> {
+        // SAFETY: every pointer comes from a slice or an array with its own length, and only exclusive ones are
+        // written through.
+        let answer = unsafe {
+            raw::zg_unfold_all(
+                self.n.0,
+                self.darts,
+                self.h.0,
+                self.rows.as_ptr(),
+                self.rows.len(),
+                self.lambda.as_ptr(),
+                self.lambda.len(),
+                self.delta.as_ptr(),
+                self.delta.len(),
+                tables.as_mut_ptr(),
+                tables.len(),
+                counts.as_mut_ptr(),
+                LEVELS,
+                since.as_mut_ptr(),
+                LEVELS,
+            )
+        };
+        answer.accepted()
     }
 
     /// The mark row of a level, read back: [`crate::marks_of`].

@@ -190,6 +190,29 @@ extern "C" {
         table_len: usize,
     ) -> ZgUnfolding;
 
+    /// Checks a whole pyramid and unfolds all its levels.
+    ///
+    /// # Safety
+    ///
+    /// As [the module](self#safety) says.
+    pub fn zg_unfold_all(
+        n: u8,
+        darts: u16,
+        h: u8,
+        rows: *const u16,
+        rows_len: usize,
+        lambda: *const u8,
+        lambda_len: usize,
+        delta: *const u8,
+        delta_len: usize,
+        tables: *mut u16,
+        tables_len: usize,
+        counts: *mut u32,
+        counts_len: usize,
+        since: *mut u8,
+        since_len: usize,
+    ) -> ZgRefusal;
+
     /// Says where a row of a level lies.
     ///
     /// # Safety

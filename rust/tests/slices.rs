@@ -1,6 +1,6 @@
 //! Jobs called with the slices themselves, where a pyramid that owns its memory would hide what they leave in it.
 use zompelgors::{
-    join, marks_of, rebase, Base, Dimension, Level, Pyramid, Reading, Refusal, ABSENT, STAY,
+    join, marks_of, rebase, Base, Dimension, Level, Pyramid, Reading, Refusal, ABSENT, LEVELS, STAY,
 };
 
 /// The square, {1,2} removed, then {3,4}.
@@ -28,6 +28,44 @@ fn corners() -> Pyramid<'static> {
         lambda: &LAMBDA,
         delta: &DELTA,
     }
+}
+
+#[test]
+fn all_levels_at_once() {
+    let (mut tables, mut counts, mut since) = ([9; 48], [9; LEVELS], [9; LEVELS]);
+    let unfolded = corners().unfold_all(&mut tables, &mut counts, &mut since);
+    assert_eq!(unfolded, Ok(()));
+    for (level, block) in (0..3).zip(tables.chunks(16)) {
+        let mut table = [0; 16];
+        let alone = corners().unfold(Level(level), &mut table).unwrap();
+        let at = usize::from(level);
+        assert_eq!((block, counts[at]), (&table[..], alone.count));
+        assert_eq!(Level(since[at]), alone.since);
+    }
+    assert_eq!((&counts[3..], &since[3..]), (&[0; 30][..], &[0; 30][..]));
+}
+
+#[test]
+fn levels_below_a_kernel_that_fails() {
+    // Kernel 1 has dart 3 alone, which is no whole vertex.
+    let delta = [1, 0, 0, 0, 1, 1, 1, 1];
+    let pyramid = Pyramid {
+        lambda: &[2, 0, 0, 1, 2, 2, 2, 2],
+        delta: &delta,
+        ..corners()
+    };
+    let (mut tables, mut counts, mut since) = ([9; 48], [9; LEVELS], [9; LEVELS]);
+    let unfolded = pyramid.unfold_all(&mut tables, &mut counts, &mut since);
+    assert_eq!(unfolded, Err(refused(9, 1, 1, 3)));
+    let mut table = [0; 16];
+    for (level, block) in (0..2).zip(tables.chunks(16)) {
+        pyramid.unfold(Level(level), &mut table).unwrap();
+        assert_eq!(block, table);
+    }
+    assert_eq!(tables[32..], [9; 16]);
+    assert_eq!((counts, since), ([9; LEVELS], [9; LEVELS]));
+    let short = pyramid.unfold_all(&mut tables[..47], &mut counts, &mut since);
+    assert_eq!(short, Err(refused(4, 0, 0, 0)));
 }
 
 #[test]

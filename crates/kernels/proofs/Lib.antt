@@ -1,5 +1,5 @@
 pub mod Strung
-mod Places
+pub mod Places
 mod Tests
 mod Clearing
 mod Links

@@ -12,6 +12,7 @@ use Rattle.zompelgors.proofs.zg_marks_of.Reads as marks-of
 use Rattle.zompelgors.proofs.zg_read.Reads as read
 use Rattle.zompelgors.proofs.zg_read_by_levels.Reads as by-levels
 use Rattle.zompelgors.proofs.zg_unfold.Reads as unfold-level
+use Rattle.zompelgors.proofs.zg_unfold_all.Reads as unfold-all
 use Rattle.zompelgors.proofs.zg_row.Reads as row
 use Rattle.zompelgors.proofs.zg_survivors.Reads as survivors
 use Rattle.zompelgors.proofs.zg_mark_cells.Reads as mark-cells
@@ -58,6 +59,10 @@ zg-read-by-levels-one κs = one-outcome _ _ _ (λ a r. r) (λ r. r) (λ a r. ref
 -- the table
 pub zg-unfold-one : (κs : Lfts 4) → OneOutcome (unfold-level.Learnt κs) (λ r. r) (λ s. now (s .1 .1 .1 .1 .1 .1 .1 .0))
 zg-unfold-one κs = one-outcome _ _ _ (λ a r. r) (λ r. r) (λ a r. refl) _ _ (λ a r s c. c)
+
+-- the blocks, the counts and the levels since which
+pub zg-unfold-all-one : (κs : Lfts 6) → OneOutcome (unfold-all.Learnt κs) (λ r. r) (λ s. three (now (s .1 .1 .1 .1 .1 .1 .0)) (now (s .1 .1 .1 .1 .1 .1 .1 .0)) (now (s .1 .1 .1 .1 .1 .1 .1 .1 .0)))
+zg-unfold-all-one κs = one-outcome _ _ _ (λ a r. r) (λ r. r) (λ a r. refl) _ _ (λ a r s c. (c .0, same-three (c .1 .0) (c .1 .1 .0) (c .1 .1 .1)))
 
 pub zg-row-one : (κs : Lfts 2) → OneOutcome (row.Learnt κs) (λ r. r) nothing
 zg-row-one κs = one-outcome _ _ _ (λ a r. r) (λ r. r) (λ a r. refl) _ _ (λ a r s c. (c, refl))

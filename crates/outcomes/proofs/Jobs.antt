@@ -57,6 +57,7 @@ use Rattle.regions.proofs.name_regions.Reads as name-regions
 use Rattle.converting.proofs.convert.Reads as convert
 use Rattle.joining.proofs.join.Reads as join
 use Rattle.starting_again.proofs.rebase.Reads as rebase
+use Rattle.unfolding.proofs.unfold_all.Reads as unfold-all
 use Rattle.outcomes.proofs.One.{OneOutcome, one-outcome, nothing, three, same-three, four, same-four, five, same-five, pair, same-pair}
 use Rattle.outcomes.proofs.Answers.{checkFrom, check-told, readingFrom, reading-told, valuesOfLink, linkFrom, link-told, valuesOfTotal, totalFrom, total-told, valuesOfSurvivors, survivorsFrom, survivors-told, valuesOfHeight, heightFrom, height-told, takenFrom, taken-told, writtenFrom, written-told, factorFrom, factor-told, rebasedFrom, rebased-told, numbersFrom, numbers-told}
 use Rattle.outcomes.proofs.Cells.{marking-same}
@@ -181,6 +182,10 @@ join-one κs =
 -- rows, Λ, Δ, the table and the old numbers
 pub rebase-one : (κs : Lfts 5) → OneOutcome (rebase.Learnt κs) (λ r. r) (λ s. five (now (s .1 .0)) (now (s .1 .1 .0)) (now (s .1 .1 .1 .0)) (now (s .1 .1 .1 .1 .0)) (now (s .1 .1 .1 .1 .1 .0)))
 rebase-one κs = one-outcome _ _ _ (λ a. rebasedOf (a .0 .sizes)) rebasedFrom (λ a. rebased-told (a .0 .sizes)) _ _ (λ a r s c. (c .0, same-five (c .1 .0) (c .1 .1 .0) (c .1 .1 .1 .0) (c .1 .1 .1 .1 .0) (c .1 .1 .1 .1 .1)))
+
+-- the blocks, the counts and the levels since which
+pub unfold-all-one : (κs : Lfts 6) → OneOutcome (unfold-all.Learnt κs) (λ r. r) (λ s. three (now (s .1 .1 .1 .1 .0)) (now (s .1 .1 .1 .1 .1 .0)) (now (s .1 .1 .1 .1 .1 .1 .0)))
+unfold-all-one κs = one-outcome _ _ _ (λ a. verdictOf) checkFrom (λ a. check-told) _ _ (λ a r s c. (c .0, same-three (c .1 .0) (c .1 .1 .0) (c .1 .1 .1)))
 
 -- what jobs share
 pub in-range-one : (κs : Lfts 0) → OneOutcome (in-range.Learnt κs) (λ r. r) nothing

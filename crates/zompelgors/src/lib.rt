@@ -6,6 +6,7 @@ use answers::Level;
 use answers::Question;
 use answers::Refusal;
 use answers::Sizes;
+use unfolding::unfold_all;
 ghost use mathlib.Core.Path.{_≡_};
 ghost use Prim.Native.Nat.{_*_, _≤_};
 ghost use mathlib.Core.Bool.{cond};
@@ -17,6 +18,7 @@ ghost use Rattle.maps.specs.AddLevel.{addLambda, addDelta, addLeaves};
 ghost use Rattle.maps.specs.MarksBack.{marksLent, marksLeaves};
 ghost use Rattle.maps.specs.Read.{readLentByLevels};
 ghost use Rattle.maps.specs.Unfold.{unfoldLeaves};
+ghost use Rattle.maps.specs.UnfoldAll.{unfoldAllLent, unfoldAllTables, unfoldAllCounts, unfoldAllSince};
 ghost use Rattle.maps.specs.Row.{rowLent};
 ghost use Rattle.maps.specs.Survivors.{survivorsLent, survivorCount, survivorWords};
 ghost use Rattle.maps.specs.MarkCells.{markLent, MarkLeaves};
@@ -419,14 +421,14 @@ fn base_as(sizes: Sizes, answer: starting_again::Rebased) -> ZgBase
 // The version of this interface.
 const MAJOR: u32 = 6;
 
-const MINOR: u32 = 2;
+const MINOR: u32 = 3;
 
 const PATCH: u32 = 0;
 
 // Its three numbers as one.
 #[no_mangle]
 pub extern "C" fn zg_version() -> u32
-    ensures { λ r. ⌜ r ≡ versionFor 6 2 0 ⌝ }
+    ensures { λ r. ⌜ r ≡ versionFor 6 3 0 ⌝ }
 {
     MAJOR * 65536 + MINOR * 256 + PATCH
 }
@@ -598,6 +600,32 @@ pub extern "C" fn zg_unfold(
         darts,
     };
     unfolding_as(reading::unfold(sizes, rows, lambda, delta, Level(level), table))
+}
+
+// Checks a whole pyramid and unfolds all its levels, each in a block of its own, with the counts and the levels since which.
+#[no_mangle]
+pub extern "C" fn zg_unfold_all(
+    n: u8,
+    darts: u16,
+    h: u8,
+    rows: &[u16],
+    lambda: &[u8],
+    delta: &[u8],
+    tables: &mut [u16],
+    counts: &mut [u32],
+    since: &mut [u8],
+) -> ZgRefusal
+    ensures answer { λ r. ⌜ r ≡ refusalFor (unfoldAllLent (given n darts h (rows .entry) (lambda .entry) (delta .entry)) (now (tables .entry)) (now (counts .entry)) (now (since .entry))) ⌝ }
+    ensures tables_left { λ _. ⌜ now (tables .exit) ≡ unfoldAllTables (given n darts h (rows .entry) (lambda .entry) (delta .entry)) (now (tables .entry)) (now (counts .entry)) (now (since .entry)) ⌝ }
+    ensures counts_left { λ _. ⌜ now (counts .exit) ≡ unfoldAllCounts (given n darts h (rows .entry) (lambda .entry) (delta .entry)) (now (tables .entry)) (now (counts .entry)) (now (since .entry)) ⌝ }
+    ensures since_left { λ _. ⌜ now (since .exit) ≡ unfoldAllSince (given n darts h (rows .entry) (lambda .entry) (delta .entry)) (now (tables .entry)) (now (counts .entry)) (now (since .entry)) ⌝ }
+{
+    let sizes = Sizes {
+        n: Dim(n),
+        h: Level(h),
+        darts,
+    };
+    refusal_as(unfold_all(sizes, rows, lambda, delta, tables, counts, since))
 }
 
 // Says where a row of a level lies.

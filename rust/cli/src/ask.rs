@@ -5,7 +5,7 @@ use crate::records::Loaded;
 use crate::refusals::Asked;
 use std::collections::BTreeMap;
 use zompelgors::regions::name_regions;
-use zompelgors::{Dimension, Factor, Level, ABSENT, CONTRACT, STAY, SUMS, WORDS};
+use zompelgors::{Dimension, Factor, Level, ABSENT, CONTRACT, LEVELS, STAY, SUMS, WORDS};
 
 /// What every answer begins with.
 pub fn sizes(loaded: &Loaded) -> Vec<(&'static str, Value)> {
@@ -204,21 +204,34 @@ pub fn row(loaded: &Loaded, level: Level, involution: Dimension) -> Result<Answe
     Ok(Answer::of(fields).with(Table::row("row", "neighbour", row.iter().map(|dart| entry(*dart)))))
 }
 
-/// Levels written out: for each the neighbours of its darts.
+/// A level written out, or all of them: for each the neighbours of its darts.
 pub fn unfold(loaded: &Loaded, level: Option<Level>) -> Result<Answer, Failure> {
-    let mut table = loaded.table();
     let mut lines = Table::new("levels", &["level", "survivors", "reads", "since"]);
     let mut entries = Table::new("entries", &["level", "dart"]);
     entries.columns.extend((0..=loaded.n()).map(|i| format!("a{i}")));
-    let asked = level.map_or_else(|| loaded.levels().collect(), |one| vec![one]);
-    for level in asked {
+    if let Some(level) = level {
+        let mut table = loaded.table();
         lines.lines.push(level_line(loaded, level, &mut table)?);
-        for dart in loaded.survivors(level) {
-            let neighbours = table.chunks(loaded.darts()).map(|row| entry(row[usize::from(dart)]));
-            entries
-                .lines
-                .push([level.0.into(), dart.into()].into_iter().chain(neighbours).collect());
+        entries.lines.extend(written_out(loaded, level, &table));
+    } else {
+        let mut tables = vec![0; loaded.levels().count() * loaded.pyramid.entries()];
+        let (mut counts, mut since) = ([0; LEVELS], [0; LEVELS]);
+        let unfolded = loaded.lend().unfold_all(&mut tables, &mut counts, &mut since);
+        unfolded.map_err(loaded.refused(&loaded.asked_level()))?;
+        for (level, table) in loaded.levels().zip(tables.chunks(loaded.pyramid.entries())) {
+            let (at, found) = (usize::from(level.0), survivor_count(loaded, level)?);
+            let line = vec![level.0.into(), count(found), counts[at].into(), since[at].into()];
+            lines.lines.push(line);
+            entries.lines.extend(written_out(loaded, level, table));
         }
     }
     Ok(Answer::of(sizes(loaded)).with(lines).with(entries))
+}
+
+/// A line for each dart of a level: the level, the dart and its neighbours.
+fn written_out<'a>(loaded: &'a Loaded, level: Level, table: &'a [u16]) -> impl Iterator<Item = Vec<Value>> + 'a {
+    loaded.survivors(level).into_iter().map(move |dart| {
+        let neighbours = table.chunks(loaded.darts()).map(|row| entry(row[usize::from(dart)]));
+        [level.0.into(), dart.into()].into_iter().chain(neighbours).collect()
+    })
 }

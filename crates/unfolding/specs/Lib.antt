@@ -1,0 +1,3 @@
+pub mod Stacked
+pub mod Carried
+pub mod Told
