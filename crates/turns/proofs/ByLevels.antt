@@ -15,7 +15,7 @@ use Rattle.maps.specs.Walk.{Walked, ended, stopped}
 use Rattle.maps.specs.ByLevels.{readBase, overLevel, readLevel, byLevels}
 use Rattle.laws.proofs.Counting.{sum-const}
 use Rattle.facts.proofs.Facts.{facts}
-use Rattle.turns.specs.ByLevels.{Counted, ifStopped, tallyBase, tallyOver, tallyLevel, callsOn, entriesRead, furtherSteps, stopsBegun, stopsPassed}
+use Rattle.turns.specs.ByLevels.{Counted, ifStopped, tallyBase, tallyOver, tallyLevel, callsOn, entriesRead, furtherSteps, stopsBegun, stopsPassed, stopLevel}
 use Rattle.turns.proofs.Counts.{sum-at-most}
 
 at-most-one : (x : Bool) → one x ≤ 1
@@ -23,21 +23,22 @@ at-most-one true = omega arith
 at-most-one false = omega arith
 
 -- a reading that ended, with c entries read before and c₁ after
-record Done (N c c₁ calls entries further begun passed : ℕ) : Type 0 where
+record Done (N c c₁ calls entries further begun passed from : ℕ) : Type 0 where
   read : c + entries ≡ c₁
   few : c₁ ≤ 1 + 2 * N
   called : calls ≡ entries
-  turned : 1 + further ≤ entries
+  turned : 1 + further ≡ calls
   none-begun : begun ≡ 0
   none-passed : passed ≡ 0
+  nowhere : from ≡ 0
 
 -- a reading on level l that stopped
-record Broken (N l c calls entries further begun passed : ℕ) : Type 0 where
-  few : entries ≤ 1 + 2 * N - c
+record Broken (N l c calls entries further begun passed from : ℕ) : Type 0 where
+  few : c + entries ≤ 1 + 2 * N
   called : calls ≤ entries + 1
-  turned : further ≤ entries
+  turned : 1 + further ≡ calls
   once : begun ≡ 1
-  up : passed ≤ l
+  up : passed + from ≡ l
 
 -- What a whole question on level l does.
 pub record Does (N l : ℕ) (x : Counted → ℕ) : Type 0 where
@@ -47,32 +48,34 @@ pub record Does (N l : ℕ) (x : Counted → ℕ) : Type 0 where
   pub base : x (callsOn 0) ≤ x entriesRead + 1
   -- no more calls on a level than on the one below
   pub fewer : (k : ℕ) → k < l → x (callsOn (suc k)) ≤ x (callsOn k)
-  -- second steps and further turns of all walks
+  -- a call of the base more than second steps and further turns of all walks
+  pub steps : x (callsOn 0) ≡ 1 + x furtherSteps
+  -- so of these there are no more than entries
   pub further : x furtherSteps ≤ x entriesRead
   -- a stop begins once
   pub begun : x stopsBegun ≤ 1
-  -- and is passed up once through each level
-  pub passed : x stopsPassed ≤ l
+  -- and is passed up once through each level above the one that it begins on
+  pub passed : x stopsPassed + x stopLevel ≤ l
 
 module _ (a : Involutions) (n N h : ℕ) (Λ Δ : ℕ → ℕ) (i b : ℕ) where
   -- what is told of a reading by how it ended: calls of the base, entries, further steps, stops begun and stops passed up
-  abbrev Told : ℕ → ℕ → Walked → ℕ → ℕ → ℕ → ℕ → ℕ → Type 0
-  Told l c (ended u e c₁) C E F B P = Done N c c₁ C E F B P
-  Told l c (stopped k r d) C E F B P = Broken N l c C E F B P
+  abbrev Told : ℕ → ℕ → Walked → ℕ → ℕ → ℕ → ℕ → ℕ → ℕ → Type 0
+  Told l c (ended u e c₁) C E F B P S = Done N c c₁ C E F B P S
+  Told l c (stopped k r d) C E F B P S = Broken N l c C E F B P S
 
-  base-told : (t d c : ℕ) → let x : Counted → ℕ = λ w. tallyBase a n N h Λ Δ i b w t d c in Told 0 c (readBase a n N h Λ Δ i b t d c) (x (callsOn 0)) (x entriesRead) (x furtherSteps) (x stopsBegun) (x stopsPassed)
+  base-told : (t d c : ℕ) → c ≤ 1 + 2 * N → let x : Counted → ℕ = λ w. tallyBase a n N h Λ Δ i b w t d c in Told 0 c (readBase a n N h Λ Δ i b t d c) (x (callsOn 0)) (x entriesRead) (x furtherSteps) (x stopsBegun) (x stopsPassed) (x stopLevel)
   unfolding readBase tallyBase
-  base-told t d c = go (ltb c (1 + 2 * N)) refl (ltb (a t d) N) refl (refusedMarks n h (Λ (a t d)) (Δ (a t d))) refl
+  base-told t d c low = go (ltb c (1 + 2 * N)) refl (ltb (a t d) N) refl (refusedMarks n h (Λ (a t d)) (Δ (a t d))) refl
     where
       go : (x : Bool) → ltb c (1 + 2 * N) ≡ x → (y : Bool) → ltb (a t d) N ≡ y → (z : Bool) → refusedMarks n h (Λ (a t d)) (Δ (a t d)) ≡ z
-          → let x : Counted → ℕ = λ w. tallyBase a n N h Λ Δ i b w t d c in Told 0 c (readBase a n N h Λ Δ i b t d c) (x (callsOn 0)) (x entriesRead) (x furtherSteps) (x stopsBegun) (x stopsPassed)
+          → let x : Counted → ℕ = λ w. tallyBase a n N h Λ Δ i b w t d c in Told 0 c (readBase a n N h Λ Δ i b t d c) (x (callsOn 0)) (x entriesRead) (x furtherSteps) (x stopsBegun) (x stopsPassed) (x stopLevel)
       go false p y q z r = rw (p, readBase, tallyBase) (omega (arith, ltb-false c (1 + 2 * N) p))
       go true p false q z r = rw (p, q, readBase, tallyBase) (omega (arith, ltb-true c (1 + 2 * N) p))
       go true p true q true r = rw (p, q, r, readBase, tallyBase) (omega (arith, ltb-true c (1 + 2 * N) p))
       go true p true q false r = rw (p, q, r, readBase, tallyBase) (omega (arith, ltb-true c (1 + 2 * N) p))
 
   -- the walk over level l, which `below` reads; each reading there is told of
-  module _ (l : ℕ) (below : ℕ → ℕ → ℕ → Walked) (C E F B P : ℕ → ℕ → ℕ → ℕ) (told : (t d c : ℕ) → Told l c (below t d c) (C t d c) (E t d c) (F t d c) (B t d c) (P t d c)) where
+  module _ (l : ℕ) (below : ℕ → ℕ → ℕ → Walked) (C E F B P S : ℕ → ℕ → ℕ → ℕ) (told : (t d c : ℕ) → c ≤ 1 + 2 * N → Told l c (below t d c) (C t d c) (E t d c) (F t d c) (B t d c) (P t d c) (S t d c)) where
     abbrev over : ℕ → ℕ → ℕ → ℕ → Walked
     over = overLevel a n N h Λ Δ i b below l
 
@@ -80,36 +83,37 @@ module _ (a : Involutions) (n N h : ℕ) (Λ Δ : ℕ → ℕ) (i b : ℕ) where
     tell w x = tallyOver a n N h Λ Δ i b w below x l
 
     abbrev Over : ℕ → ℕ → ℕ → ℕ → Type 0
-    Over times t d c = Told (suc l) c (over times t d c) (tell (callsOn 0) C times t d c) (tell entriesRead E times t d c) (tell furtherSteps F times t d c) (tell stopsBegun B times t d c) (tell stopsPassed P times t d c)
+    Over times t d c = Told (suc l) c (over times t d c) (tell (callsOn 0) C times t d c) (tell entriesRead E times t d c) (tell furtherSteps F times t d c) (tell stopsBegun B times t d c) (tell stopsPassed P times t d c) (tell stopLevel S times t d c)
 
-    round : (times t d c : ℕ) → ((d₂ c₂ : ℕ) → Over times t d₂ c₂) → Over (suc times) t d c
+    round : (times t d c : ℕ) → c ≤ 1 + 2 * N → ((d₂ c₂ : ℕ) → c + 2 ≤ c₂ → c₂ ≤ 1 + 2 * N → Over times t d₂ c₂) → Over (suc times) t d c
     unfolding overLevel tallyOver
-    round times t d c rest = first (below t d c) refl (told t d c)
+    round times t d c low rest = first (below t d c) refl (told t d c low)
       where
-        first : (w : Walked) → below t d c ≡ w → Told l c w (C t d c) (E t d c) (F t d c) (B t d c) (P t d c) → Over (suc times) t d c
+        first : (w : Walked) → below t d c ≡ w → Told l c w (C t d c) (E t d c) (F t d c) (B t d c) (P t d c) (S t d c) → Over (suc times) t d c
         first (stopped k r e) q m = rw (q, overLevel, tallyOver) (omega arith)
-        first (ended u e c₁) q m = second (gone Λ (suc l) e) refl (eqb (Λ e) l && eqb (between (Δ e) .0) t) refl (below (between (Δ e) .1) e c₁) refl (told (between (Δ e) .1) e c₁)
+        first (ended u e c₁) q m = second (gone Λ (suc l) e) refl (eqb (Λ e) l && eqb (between (Δ e) .0) t) refl (below (between (Δ e) .1) e c₁) refl (told (between (Δ e) .1) e c₁ (m .few))
           where
             second : (x : Bool) → gone Λ (suc l) e ≡ x → (y : Bool) → (eqb (Λ e) l && eqb (between (Δ e) .0) t) ≡ y → (w : Walked) → below (between (Δ e) .1) e c₁ ≡ w
-                → (let s = between (Δ e) .1 in Told l c₁ w (C s e c₁) (E s e c₁) (F s e c₁) (B s e c₁) (P s e c₁)) → Over (suc times) t d c
+                → (let s = between (Δ e) .1 in Told l c₁ w (C s e c₁) (E s e c₁) (F s e c₁) (B s e c₁) (P s e c₁) (S s e c₁)) → Over (suc times) t d c
             second false g y f w q₂ m₂ = rw (q, g, overLevel, tallyOver) (omega arith)
             second true g false f w q₂ m₂ = rw (q, g, f, overLevel, tallyOver) (omega arith)
             second true g true f (stopped k r d₂) q₂ m₂ = rw (q, g, f, q₂, overLevel, tallyOver) (omega arith)
-            second true g true f (ended u₂ e₂ c₂) q₂ m₂ = last (eqb (Λ e₂) l && eqb (Δ e₂) (Δ e)) refl (over times t e₂ c₂) refl (rest e₂ c₂)
+            second true g true f (ended u₂ e₂ c₂) q₂ m₂ = last (eqb (Λ e₂) l && eqb (Δ e₂) (Δ e)) refl (over times t e₂ c₂) refl (rest e₂ c₂ (omega arith) (m₂ .few))
               where
                 last : (z : Bool) → (eqb (Λ e₂) l && eqb (Δ e₂) (Δ e)) ≡ z → (w : Walked) → over times t e₂ c₂ ≡ w
-                    → Told (suc l) c₂ w (tell (callsOn 0) C times t e₂ c₂) (tell entriesRead E times t e₂ c₂) (tell furtherSteps F times t e₂ c₂) (tell stopsBegun B times t e₂ c₂) (tell stopsPassed P times t e₂ c₂) → Over (suc times) t d c
+                    → Told (suc l) c₂ w (tell (callsOn 0) C times t e₂ c₂) (tell entriesRead E times t e₂ c₂) (tell furtherSteps F times t e₂ c₂) (tell stopsBegun B times t e₂ c₂) (tell stopsPassed P times t e₂ c₂) (tell stopLevel S times t e₂ c₂) → Over (suc times) t d c
                 last false j w q₃ m₃ = rw (q, g, f, q₂, j, overLevel, tallyOver) (omega arith)
                 last true j (stopped k r d₃) q₃ m₃ = rw (q, g, f, q₂, j, q₃, overLevel, tallyOver) (omega arith)
                 last true j (ended u₃ e₃ c₃) q₃ m₃ = rw (q, g, f, q₂, j, q₃, overLevel, tallyOver) (omega arith)
 
-    over-told : (times t d c : ℕ) → Over times t d c
+    -- two entries are read a turn, so the limit of turns is not reached
+    over-told : (times t d c : ℕ) → 1 + 2 * N < 2 * times + c → c ≤ 1 + 2 * N → Over times t d c
     unfolding overLevel tallyOver
-    over-told zero t d c = omega arith
-    over-told (suc times) t d c = round times t d c (over-told times t)
+    over-told zero t d c f low = absurd (omega arith)
+    over-told (suc times) t d c f low = round times t d c low (λ d₂ c₂ more few. over-told times t d₂ c₂ (omega arith) few)
 
   -- A walk over level l reads two entries a turn, so that it never takes as many turns as the definition gives it: with more it does the same.
-  module _ (l : ℕ) (below : ℕ → ℕ → ℕ → Walked) (met : (t d c u e c₁ : ℕ) → below t d c ≡ ended u e c₁ → (c < c₁) × (c₁ ≤ 1 + 2 * N)) (w : Counted) (z : ℕ → ℕ → ℕ → ℕ) where
+  module _ (l : ℕ) (below : ℕ → ℕ → ℕ → Walked) (met : (t d c u e c₁ : ℕ) → c ≤ 1 + 2 * N → below t d c ≡ ended u e c₁ → (c < c₁) × (c₁ ≤ 1 + 2 * N)) (w : Counted) (z : ℕ → ℕ → ℕ → ℕ) where
     abbrev whole : ℕ → ℕ → ℕ → ℕ → ℕ
     whole = tallyOver a n N h Λ Δ i b w below z l
 
@@ -132,32 +136,32 @@ module _ (a : Involutions) (n N h : ℕ) (Λ Δ : ℕ → ℕ) (i b : ℕ) where
                 last : (m : Bool) → (eqb (Λ e₂) l && eqb (Δ e₂) (Δ e)) ≡ m → whole (suc x) t d c ≡ whole (suc y) t d c
                 last false m = rw (f, g, j, s, m, tallyOver)
                 last true m =
-                    let one = met t d c u e c₁ f in
-                    let two = met (between (Δ e) .1) e c₁ u₂ e₂ c₂ s in
+                    let one = met t d c u e c₁ k f in
+                    let two = met (between (Δ e) .1) e c₁ u₂ e₂ c₂ (one .1) s in
                     rw (f, g, j, s, m, tallyOver, rest e₂ c₂ (omega (arith, one .0, two .0)) (two .1))
 
   -- a level more: `walk` is called by a call of `reading` above level 0
-  one-more : (l c : ℕ) (w : Walked) (C E F B P : ℕ) → Told (suc l) c w C E F B P → Told (suc l) c w (one (eqb (suc l) 0) + C) (0 + E) (0 + F) (0 + B) (0 + P)
-  one-more l c (ended u e c₁) C E F B P m = rw (ne-eqb (suc l) 0 (λ (z : suc l ≡ 0). omega arith)) (omega arith)
-  one-more l c (stopped k r d) C E F B P m = rw (ne-eqb (suc l) 0 (λ (z : suc l ≡ 0). omega arith)) (omega arith)
+  one-more : (l c : ℕ) (w : Walked) (C E F B P S : ℕ) → Told (suc l) c w C E F B P S → Told (suc l) c w (one (eqb (suc l) 0) + C) (0 + E) (0 + F) (0 + B) (0 + P) (0 + S)
+  one-more l c (ended u e c₁) C E F B P S m = rw (ne-eqb (suc l) 0 (λ (z : suc l ≡ 0). omega arith)) (omega arith)
+  one-more l c (stopped k r d) C E F B P S m = rw (ne-eqb (suc l) 0 (λ (z : suc l ≡ 0). omega arith)) (omega arith)
 
   abbrev tally : ℕ → ℕ → ℕ → ℕ → Counted → ℕ
   tally l t d c w = tallyLevel a n N h Λ Δ i b w l t d c
 
-  level-told : (l t d c : ℕ) → Told l c (readLevel a n N h Λ Δ i b l t d c) (tally l t d c (callsOn 0)) (tally l t d c entriesRead) (tally l t d c furtherSteps) (tally l t d c stopsBegun) (tally l t d c stopsPassed)
+  level-told : (l t d c : ℕ) → c ≤ 1 + 2 * N → Told l c (readLevel a n N h Λ Δ i b l t d c) (tally l t d c (callsOn 0)) (tally l t d c entriesRead) (tally l t d c furtherSteps) (tally l t d c stopsBegun) (tally l t d c stopsPassed) (tally l t d c stopLevel)
   unfolding readLevel tallyLevel
-  level-told zero t d c = base-told t d c
-  level-told (suc l) t d c =
+  level-told zero t d c low = base-told t d c low
+  level-told (suc l) t d c low =
       let below = readLevel a n N h Λ Δ i b l in
       let x : Counted → ℕ → ℕ → ℕ → ℕ = λ w t d c. tallyLevel a n N h Λ Δ i b w l t d c in
       let y : Counted → ℕ = λ w. tallyOver a n N h Λ Δ i b w below (x w) l (1 + 2 * N) t d c in
-      one-more l c (overLevel a n N h Λ Δ i b below l (1 + 2 * N) t d c) (y (callsOn 0)) (y entriesRead) (y furtherSteps) (y stopsBegun) (y stopsPassed)
-      (over-told l below (x (callsOn 0)) (x entriesRead) (x furtherSteps) (x stopsBegun) (x stopsPassed) (level-told l) (1 + 2 * N) t d c)
+      one-more l c (overLevel a n N h Λ Δ i b below l (1 + 2 * N) t d c) (y (callsOn 0)) (y entriesRead) (y furtherSteps) (y stopsBegun) (y stopsPassed) (y stopLevel)
+      (over-told l below (x (callsOn 0)) (x entriesRead) (x furtherSteps) (x stopsBegun) (x stopsPassed) (x stopLevel) (level-told l) (1 + 2 * N) t d c (omega arith) low)
 
-  level-met : (l t d c u e c₁ : ℕ) → readLevel a n N h Λ Δ i b l t d c ≡ ended u e c₁ → (c < c₁) × (c₁ ≤ 1 + 2 * N)
-  level-met l t d c u e c₁ q = go (readLevel a n N h Λ Δ i b l t d c) q (level-told l t d c)
+  level-met : (l t d c u e c₁ : ℕ) → c ≤ 1 + 2 * N → readLevel a n N h Λ Δ i b l t d c ≡ ended u e c₁ → (c < c₁) × (c₁ ≤ 1 + 2 * N)
+  level-met l t d c u e c₁ low q = go (readLevel a n N h Λ Δ i b l t d c) q (level-told l t d c low)
     where
-      go : (w : Walked) → w ≡ ended u e c₁ → Told l c w (tally l t d c (callsOn 0)) (tally l t d c entriesRead) (tally l t d c furtherSteps) (tally l t d c stopsBegun) (tally l t d c stopsPassed) → (c < c₁) × (c₁ ≤ 1 + 2 * N)
+      go : (w : Walked) → w ≡ ended u e c₁ → Told l c w (tally l t d c (callsOn 0)) (tally l t d c entriesRead) (tally l t d c furtherSteps) (tally l t d c stopsBegun) (tally l t d c stopsPassed) (tally l t d c stopLevel) → (c < c₁) × (c₁ ≤ 1 + 2 * N)
       go (ended u₁ e₁ c₂) p m = let z : c₂ ≡ c₁ = cc in (omega arith, omega arith)
       go (stopped k r d) p m = let z : _≡_ {A = ℕ} 0 1 = cc in absurd (omega arith)
 
@@ -251,20 +255,20 @@ module _ (a : Involutions) (n N h : ℕ) (Λ Δ : ℕ → ℕ) (i b : ℕ) where
           let fewer = over-less l below (suc k) k k (x (suc k)) (λ t d c. x k t d c - x (suc k) t d c) (x k) (λ t d c. omega (arith, ih (omega arith) t d c)) (1 + 2 * N) t d c in
           rw (ne-eqb (suc l) (suc k) (λ (z : suc l ≡ suc k). omega arith)) (omega (arith, fewer))
 
-  does : (l : ℕ) (w : Walked) (x : Counted → ℕ) → Told l 0 w (x (callsOn 0)) (x entriesRead) (x furtherSteps) (x stopsBegun) (x stopsPassed) → ((k : ℕ) → k < l → x (callsOn (suc k)) ≤ x (callsOn k)) → Does N l x
-  does l (ended u e c₁) x m f = record { entries = omega arith; base = omega arith; fewer = f; further = omega arith; begun = omega arith; passed = omega arith }
-  does l (stopped k r d) x m f = record { entries = omega arith; base = omega arith; fewer = f; further = omega arith; begun = omega arith; passed = omega arith }
+  does : (l : ℕ) (w : Walked) (x : Counted → ℕ) → Told l 0 w (x (callsOn 0)) (x entriesRead) (x furtherSteps) (x stopsBegun) (x stopsPassed) (x stopLevel) → ((k : ℕ) → k < l → x (callsOn (suc k)) ≤ x (callsOn k)) → Does N l x
+  does l (ended u e c₁) x m f = record { entries = omega arith; base = omega arith; fewer = f; steps = omega arith; further = omega arith; begun = omega arith; passed = omega arith }
+  does l (stopped k r d) x m f = record { entries = omega arith; base = omega arith; fewer = f; steps = omega arith; further = omega arith; begun = omega arith; passed = omega arith }
 
   -- of every question, on any tables
   pub levels-work : (l : ℕ) → Does N l (tally l i b 0)
-  levels-work l = does l (readLevel a n N h Λ Δ i b l i b 0) (tally l i b 0) (level-told l i b 0) (λ k f. level-calls l k f i b 0)
+  levels-work l = does l (readLevel a n N h Λ Δ i b l i b 0) (tally l i b 0) (level-told l i b 0 (omega arith)) (λ k f. level-calls l k f i b 0)
 
   -- where a neighbour is found, the count that is answered is the entries read, and as many calls are of the base
   pub found-work : (l u e c : ℕ) → byLevels a n N h Λ Δ i b l ≡ ended u e c → (tally l i b 0 entriesRead ≡ c) × (tally l i b 0 (callsOn 0) ≡ c)
   unfolding byLevels
-  found-work l u e c q = go (readLevel a n N h Λ Δ i b l i b 0) q (level-told l i b 0)
+  found-work l u e c q = go (readLevel a n N h Λ Δ i b l i b 0) q (level-told l i b 0 (omega arith))
     where
-      go : (w : Walked) → w ≡ ended u e c → Told l 0 w (tally l i b 0 (callsOn 0)) (tally l i b 0 entriesRead) (tally l i b 0 furtherSteps) (tally l i b 0 stopsBegun) (tally l i b 0 stopsPassed) → (tally l i b 0 entriesRead ≡ c) × (tally l i b 0 (callsOn 0) ≡ c)
+      go : (w : Walked) → w ≡ ended u e c → Told l 0 w (tally l i b 0 (callsOn 0)) (tally l i b 0 entriesRead) (tally l i b 0 furtherSteps) (tally l i b 0 stopsBegun) (tally l i b 0 stopsPassed) (tally l i b 0 stopLevel) → (tally l i b 0 entriesRead ≡ c) × (tally l i b 0 (callsOn 0) ≡ c)
       go (ended u₁ e₁ c₁) p m = let z : c₁ ≡ c = cc in (omega arith, omega arith)
       go (stopped k r d) p m = let z : _≡_ {A = ℕ} 0 1 = cc in absurd (omega arith)
 

@@ -39,7 +39,7 @@ module _ (f : Folded) (b : Base f) where
   low : (l : ℕ) → l ≤ f .h → climbReads f l ≤ (f .n + 8) * goneOf f
   low l k = omega (arith, climb-reads f b l k, mul-le-mul-left (f .n + 8) (removed-rises (f .N) (lambdaOf f) l (f .h) k))
 
-  -- Join kernels l and l+1, whose string has `first` and `next`: all kernels, and of the joined one every row but the first of its darts' marks.
+  -- Join kernels l and l+1: all kernels are climbed, and along the joined string every row is read but the first of a dart's mark.
   module _ (l : ℕ) (k : suc l < f .h) {Λ′ : ℕ → ℕ} {head next : List ℕ} (s : Linked (f .N) Λ′ 0 head next) (is : (d : ℕ) → d < f .N → Λ′ d ≡ joinΛ l (lambdaOf f) d) (times : ℕ) where
     pub join-reads : climbReads f (f .h) + f .n * turnsAlong (f .N) next times (each head l) ≤ (f .n + 8) * goneOf f + f .n * goneOf f
     join-reads = omega (arith, low (f .h) (omega arith), mul-le-mul-left (f .n) (joined-turns s (lambdaOf f) l (f .h) is k (omega (arith, b .height)) times))

@@ -13,7 +13,7 @@ use Rattle.orbits.specs.Explicit.{but}
 use Rattle.turns.specs.Strings.{turnsAlong, turnsOver}
 use Rattle.turns.specs.Searches.{searched, searchReads, eachDart, inFirst, inSecond, countStep, countedCells, spoilStep, divideStep, pieceStep, spareStep, divided, spared}
 use Rattle.turns.specs.Walks.{walkEntries}
-use Rattle.turns.specs.ByLevels.{Counted, tallyBase, tallyOver, tallyLevel, callsOn, entriesRead, furtherSteps, stopsBegun, stopsPassed}
+use Rattle.turns.specs.ByLevels.{Counted, tallyBase, tallyOver, tallyLevel, callsOn, entriesRead, furtherSteps, stopsBegun, stopsPassed, stopLevel}
 
 -- its rows, and Λ and Δ
 abbrev square : List ℕ
@@ -49,9 +49,9 @@ small-walk = refl
 abbrev broken : Counted → ℕ
 broken w = tallyLevel (entry 8 square) 1 8 2 (each (2 ∷ 0 ∷ 2 ∷ 0 ∷ 0 ∷ 0 ∷ 0 ∷ 2 ∷ [])) (each (1 ∷ 0 ∷ 1 ∷ 0 ∷ 0 ∷ 0 ∷ 0 ∷ 1 ∷ [])) 0 0 w 2 0 0 0
 
-pub small-stop : (broken entriesRead ≡ 2) × (broken (callsOn 0) ≡ 2) × (broken (callsOn 1) ≡ 1) × (broken (callsOn 2) ≡ 1) × (broken furtherSteps ≡ 1) × (broken stopsBegun ≡ 1) × (broken stopsPassed ≡ 1)
+pub small-stop : (broken entriesRead ≡ 2) × (broken (callsOn 0) ≡ 2) × (broken (callsOn 1) ≡ 1) × (broken (callsOn 2) ≡ 1) × (broken furtherSteps ≡ 1) × (broken stopsBegun ≡ 1) × (broken stopsPassed ≡ 1) × (broken stopLevel ≡ 1)
 unfolding tallyLevel tallyOver tallyBase readLevel overLevel readBase isMark between
-small-stop = (refl, refl, refl, refl, refl, refl, refl)
+small-stop = (refl, refl, refl, refl, refl, refl, refl, refl)
 
 -- its vertices counted: four searches, two darts each, one row of each
 pub small-count : (countedCells 1 8 square (λ j d. but 0 j) (replicate 4096 0) .firsts ≡ 8) × (countedCells 1 8 square (λ j d. but 0 j) (replicate 4096 0) .entries ≡ 8)

@@ -1,4 +1,4 @@
--- What a reading by levels does, counted: the definition of the reading once more, with a number for each thing that happens. Assumes nothing: these are definitions.
+-- What a reading by levels does, counted: the definition of the reading once more, with a number for each thing that happens. That the code's calls and turns are these is read in it. Assumes nothing: these are definitions.
 use mathlib.Core.Bool.{true, false, cond, _&&_}
 use Prim.Native.Nat.{ℕ, zero, suc, _+_, _*_}
 use lib.Dec.{eqb, ltb}
@@ -54,18 +54,26 @@ module _ (a : Involutions) (n N h : ℕ) (Λ Δ : ℕ → ℕ) (i b : ℕ) (w : 
   tallyLevel zero t d c = tallyBase t d c
   tallyLevel (suc l) t d c = w .call (suc l) + tallyOver (readLevel a n N h Λ Δ i b l) (tallyLevel l) l (1 + 2 * N) t d c
 
--- what each count counts
+-- calls of `reading` on level k
 abbrev pub callsOn : ℕ → Counted
 callsOn k = record { call = λ l. one (eqb l k); entry = 0; more = λ l. 0; begun = λ l. 0; passed = λ l. 0 }
 
+-- base entries read
 abbrev pub entriesRead : Counted
 entriesRead = record { call = λ l. 0; entry = 1; more = λ l. 0; begun = λ l. 0; passed = λ l. 0 }
 
+-- second steps and further turns of all walks
 abbrev pub furtherSteps : Counted
 furtherSteps = record { call = λ l. 0; entry = 0; more = λ l. 1; begun = λ l. 0; passed = λ l. 0 }
 
+-- stops that begin, on whichever level
 abbrev pub stopsBegun : Counted
 stopsBegun = record { call = λ l. 0; entry = 0; more = λ l. 0; begun = λ l. 1; passed = λ l. 0 }
 
+-- how often a stop is passed up
 abbrev pub stopsPassed : Counted
 stopsPassed = record { call = λ l. 0; entry = 0; more = λ l. 0; begun = λ l. 0; passed = λ l. 1 }
+
+-- of a stop the level that it begins on
+abbrev pub stopLevel : Counted
+stopLevel = record { call = λ l. 0; entry = 0; more = λ l. 0; begun = λ l. l; passed = λ l. 0 }

@@ -6,7 +6,7 @@ use Rattle.maps.specs.Map.{Involutions}
 use Rattle.orbits.specs.Search.{State}
 use Rattle.orbits.specs.Orbits.{Found}
 
--- M searches, each as the contract of `orbit` says: search k finds `before k` and leaves `after k`, and the next finds its flags as they are left. What stands in
+-- So many searches, each as the contract of `orbit` says: search k finds `before k` and leaves `after k`, and the next finds its flags as they are left. What stands in
 -- the queue before a search, and where it begins, is left open.
 pub record Run (n N : ℕ) (a : Involutions) (uses : ℕ → ℕ → ℕ → Bool) (start : ℕ → ℕ) (before after : ℕ → State) (m : ℕ) : Type 0 where
   pub found : (k : ℕ) → k < m → Found n N a (uses k) (start k) (before k) (after k)

@@ -75,28 +75,33 @@ namedOrbits a n N uses queue = eachDart (nameStep a n N uses) (begun queue) N
 
 -- an explicit level, and the rows of a cell, of a part of it, and all
 module _ (n N : ℕ) (table : List ℕ) (cell part every : ℕ → ℕ → Bool) where
-  -- `spoil`, `divide`, `break_pieces` and `spare` for dimension δ, each at one dart
+  -- `spoil` for dimension δ, at one dart: where it is not reached and its own test fails, its cell is searched
   unfoldable pub spoilStep : ℕ → Work → ℕ → Work
   spoilStep δ w d = cond (not (has (w .first) d)) (cond (failing n N table δ d) (inFirst (entry N table) n N cell w d) w) w
 
+  -- `divide`: where it is still to be found out, the part of the dart is searched, and its cell where that part has both sides
   unfoldable pub divideStep : ℕ → Work → ℕ → Work
   divideStep δ w d =
       cond (undivided N table δ (has (w .first)) (has (w .second)) d)
       (let v = inSecond (entry N table) n N part w d in cond (has (v .second) (entry N table (δ + 1) d)) (inFirst (entry N table) n N cell v d) v)
       w
 
+  -- `break_pieces`: the piece of a dart that is reached and in no piece yet
   unfoldable pub pieceStep : Work → ℕ → Work
   pieceStep w d = cond (present N table d && (has (w .first) d && not (has (w .second) d))) (inSecond (entry N table) n N every w d) w
 
+  -- `spare`: of a dart that is in no piece yet the cell, and then the piece
   unfoldable pub spareStep : Work → ℕ → Work
   spareStep w d = cond (present N table d && not (has (w .second) d)) (inSecond (entry N table) n N every (inFirst (entry N table) n N cell w d) d) w
 
-  -- a marking, step by step: the sets and numbers after `spoil`, then after `divide`, then after `spare`
+  -- a marking after `spoil`
   abbrev pub spoiled : List ℕ → ℕ → Work
   spoiled queue δ = eachDart (spoilStep δ) (begun queue) N
 
+  -- after `divide`, whose parts are a set of their own
   abbrev pub divided : List ℕ → ℕ → Work
   divided queue δ = eachDart (divideStep δ) (anew (spoiled queue δ)) N
 
+  -- after `break_pieces` and `spare`, which share the set of pieces
   abbrev pub spared : List ℕ → ℕ → Work
   spared queue δ = eachDart spareStep (eachDart pieceStep (anew (divided queue δ)) N) N

@@ -1,4 +1,4 @@
--- The base entries that direct walks read, one after the other. Assumes nothing: these are definitions.
+-- The base entries that direct walks read, one after the other. That the code reads each once is read in its loop. Assumes nothing: these are definitions.
 use mathlib.Core.Bool.{true, false, cond}
 use Prim.Native.Nat.{ℕ, zero, suc, _+_, _*_}
 use lib.Dec.{ltb}
