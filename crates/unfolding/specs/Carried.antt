@@ -9,10 +9,10 @@ use lib.Dec.{ltb}
 use Rattle.maps.specs.Mark.{isMark}
 use Rattle.maps.specs.Removal.{marked}
 use Rattle.maps.specs.Table.{entry}
-use Rattle.maps.specs.UnfoldAll.{countsOf}
+use Rattle.maps.specs.UnfoldAll.{countsOf, countsFrom}
 use Rattle.kernels.specs.declared.Kernel.{Kernel}
 use Rattle.kernels.specs.Strings.{Marks, Strung}
-use Rattle.kernels.specs.Ready.{rowOf, TableIs, Followed, Ready}
+use Rattle.kernels.specs.Ready.{mapOf, rowOf, TableIs, Followed, Ready}
 
 -- does row t lead from dart k, which stays, to a dart that the kernel marks with that row?
 unfoldable pub leads : ℕ → ℕ → (ℕ → ℕ) → List ℕ → ℕ → ℕ → Bool
@@ -29,6 +29,10 @@ counted n N mark block reads t k = countsOf (entry N block) n mark (entry N read
 -- each fits in an entry
 abbrev pub Fits : ℕ → ℕ → (ℕ → ℕ) → List ℕ → List ℕ → Type 0
 Fits n N mark block reads = (t k : ℕ) → t ≤ n → k < N → leads n N mark block t k ≡ true → counted n N mark block reads t k < 65536
+
+-- the counts of the links by which the removal of a kernel goes on from a dart of it, by a row
+abbrev pub countsOn : Kernel → RefT (List ℕ) → RefT (List ℕ) → RefT (List ℕ) → RefT (List ℕ) → ℕ → ℕ → ℕ
+countsOn k lambda delta block reads t d = countsFrom (mapOf k block) (k .n .0) (rowOf k lambda delta) (mapOf k reads) (k .darts) t d
 
 -- what following the marks of a kernel and summing along them asks of the block and the table of counts
 abbrev pub CanFollow : Kernel → RefT (List ℕ) → RefT (List ℕ) → RefT (List ℕ) → RefT (List ℕ) → Type 0

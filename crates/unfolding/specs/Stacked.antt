@@ -1,8 +1,10 @@
 -- What climbing into blocks asks and leaves. Assumes nothing: these are definitions.
-use mathlib.Core.Bool.{_&&_}
+use mathlib.Core.Bool.{Bool, _&&_}
 use mathlib.Core.List.{List, _++_}
 use Prim.Native.Nat.{ℕ, suc, _*_}
 use lib.ListN.{take, drop}
+use lib.Dec.{eqb}
+use denote.Ref.{RefT, now}
 use Rattle.maps.specs.Verdict.{Verdict, ifAccepted, _then_}
 use Rattle.maps.specs.Sizes.{hasLength}
 use Rattle.maps.specs.Table.{entry}
@@ -11,7 +13,12 @@ use Rattle.maps.specs.Check.{checkKernel, checkPyramid}
 use Rattle.maps.specs.UnfoldAll.{stacked, blocksLeft}
 use Rattle.answers.specs.Lent.{lentOf}
 use Rattle.kernels.specs.declared.Kernel.{Kernel}
-use Rattle.kernels.specs.Ready.{removedFrom}
+use Rattle.kernels.specs.Ready.{rowOf, removedFrom}
+use Rattle.climbing.specs.Climb.{climbs}
+
+-- have base rows, Λ, Δ and blocks of these lengths the exact ones?
+abbrev pub blocksFit : ℕ → ℕ → ℕ → ℕ → ℕ → ℕ → ℕ → Bool
+blocksFit n N h rows lambda delta tables = eqb rows (suc n * N) && (eqb lambda N && (eqb delta N && eqb tables (suc h * (suc n * N))))
 
 -- 1 to 4 of base rows, marks and blocks
 abbrev pub stackSizes : Folded → List ℕ → Verdict
@@ -30,6 +37,10 @@ stackedOn f tables m = stacked f m ++ drop (m * (suc (f .n) * f .N)) tables
 abbrev pub stackLeaves : Folded → List ℕ → Verdict → List ℕ
 stackLeaves f tables v = stackedOn f tables (blocksLeft (f .h) v)
 
+-- and the climb's own
+abbrev pub climbLeaves : Folded → List ℕ → List ℕ
+climbLeaves f tables = stackLeaves f tables (climbs f)
+
 -- what climbing into blocks leaves in them
 abbrev pub stackTables : Folded → List ℕ → List ℕ
 stackTables f tables = stackLeaves f tables (stackLent f tables)
@@ -37,6 +48,10 @@ stackTables f tables = stackLeaves f tables (stackLent f tables)
 -- the entries of the block that a kernel is of
 abbrev pub sizeOf : Kernel → ℕ
 sizeOf kernel = suc (kernel .n .0) * kernel .darts
+
+-- 9 and 10 of a kernel, tested on the first of two blocks
+abbrev pub pairTested : Kernel → RefT (List ℕ) → RefT (List ℕ) → List ℕ → Verdict
+pairTested kernel lambda delta pair = checkKernel (entry (kernel .darts) (take (sizeOf kernel) pair)) (kernel .n .0) (kernel .darts) (rowOf kernel lambda delta) (kernel .level .0)
 
 -- two blocks: the second becomes the first without the kernel, where that is accepted
 abbrev pub raised : ℕ → ℕ → ℕ → (ℕ → ℕ) → List ℕ → List ℕ

@@ -10,9 +10,8 @@ ghost use lib.ListN.{length, set};
 ghost use lib.Dec.{eqb};
 ghost use Rattle.maps.specs.Mark.{between as betweenOf};
 ghost use Rattle.maps.specs.Table.{entry, each};
-ghost use Rattle.maps.specs.UnfoldAll.{countsFrom};
-ghost use Rattle.kernels.specs.Ready.{mapOf, rowOf, Place};
-ghost use Rattle.unfolding.specs.Carried.{Fits, CanFollow, CanTake, CountsLed, SinceLed};
+ghost use Rattle.kernels.specs.Ready.{rowOf, Place};
+ghost use Rattle.unfolding.specs.Carried.{Fits, countsOn, CanFollow, CanTake, CountsLed, SinceLed};
 
 // Is dart d in kernel l?
 fn removed(lambda: &[u8], l: Level, d: usize) -> bool
@@ -82,7 +81,7 @@ fn follow(
 ) -> usize
     requires { ⌜ CanFollow kernel lambda delta block reads ⌝ }
     requires { ⌜ (start .row .0 ≤ kernel .n .0) × (start .dart < kernel .darts) × (each (now lambda) (start .dart) ≡ kernel .level .0) × (betweenOf (each (now delta) (start .dart)) .0 ≡ start .row .0) ⌝ }
-    ensures answer { λ r. ⌜ r ≡ countsFrom (mapOf kernel (block .entry)) (kernel .n .0) (rowOf kernel (lambda .entry) (delta .entry)) (mapOf kernel (reads .entry)) (kernel .darts) (start .row .0) (start .dart) ⌝ }
+    ensures answer { λ r. ⌜ r ≡ countsOn kernel (lambda .entry) (delta .entry) (block .entry) (reads .entry) (start .row .0) (start .dart) ⌝ }
     ensures small { λ r. ⌜ r ≤ 131072 * 4096 ⌝ }
 {
     let darts = kernel.darts as usize;

@@ -7,11 +7,9 @@ use answers::Sizes;
 use kernels::HEADS;
 use kernels::Kernel;
 ghost use mathlib.Core.Path.{_≡_};
-ghost use mathlib.Core.Bool.{_&&_};
 ghost use mathlib.Core.List.{_++_};
 ghost use Prim.Native.Nat.{suc, _+_, _*_};
 ghost use lib.ListN.{length, take};
-ghost use lib.Dec.{eqb};
 ghost use Rattle.maps.specs.Verdict.{accepted};
 ghost use Rattle.maps.specs.Table.{entry};
 ghost use Rattle.maps.specs.Check.{checkKernel};
@@ -21,7 +19,7 @@ ghost use Rattle.kernels.specs.Strings.{Strung};
 ghost use Rattle.kernels.specs.Ready.{mapOf, rowOf, Tested};
 ghost use Rattle.climbing.specs.Climb.{Base, climbs};
 ghost use Rattle.checking.specs.Checked.{baseSizes, baseAndMarks};
-ghost use Rattle.unfolding.specs.Stacked.{sizeOf, stackLent, stackLeaves, stackTables, raised};
+ghost use Rattle.unfolding.specs.Stacked.{sizeOf, blocksFit, stackLent, climbLeaves, stackTables, pairTested, raised};
 
 // The base, copied into the first block.
 fn copy(rows: &[u16], block: &mut [u16])
@@ -59,7 +57,7 @@ fn tested(kernel: Kernel, lambda: &[u8], delta: &[u8], next: &[u16; ROOM], block
 fn raise(kernel: Kernel, lambda: &[u8], delta: &[u8], next: &[u16; ROOM], pair: &mut [u16]) -> Check
     requires { ⌜ (length (now pair) ≡ sizeOf kernel + sizeOf kernel) × Tested (kernel .n .0) (kernel .darts) (rowOf kernel lambda delta) (take (sizeOf kernel) (now pair)) ⌝ }
     requires { ⌜ Strung (kernel .n .0) (kernel .darts) (kernel .level .0) (kernel .first) (now lambda) (now delta) (now next) ⌝ }
-    ensures verdict { λ r. ⌜ verdictOf r ≡ checkKernel (entry (kernel .darts) (take (sizeOf kernel) (now (pair .entry)))) (kernel .n .0) (kernel .darts) (rowOf kernel (lambda .entry) (delta .entry)) (kernel .level .0) ⌝ }
+    ensures verdict { λ r. ⌜ verdictOf r ≡ pairTested kernel (lambda .entry) (delta .entry) (now (pair .entry)) ⌝ }
     ensures pair_left { λ _. ⌜ now (pair .exit) ≡ raised (kernel .n .0) (kernel .darts) (kernel .level .0) (rowOf kernel (lambda .entry) (delta .entry)) (now (pair .entry)) ⌝ }
 {
     let size = answers::entries(kernel.n, kernel.darts);
@@ -75,7 +73,7 @@ fn raise(kernel: Kernel, lambda: &[u8], delta: &[u8], next: &[u16; ROOM], pair: 
 fn climb(sizes: Sizes, rows: &[u16], lambda: &[u8], delta: &[u8], tables: &mut [u16]) -> Check
     requires { ⌜ Base (lent sizes rows lambda delta) × (length (now tables) ≡ suc (sizes .h .0) * (suc (sizes .n .0) * sizes .darts)) ⌝ }
     ensures verdict { λ r. ⌜ verdictOf r ≡ climbs (lent sizes (rows .entry) (lambda .entry) (delta .entry)) ⌝ }
-    ensures tables_left { λ _. ⌜ now (tables .exit) ≡ stackLeaves (lent sizes (rows .entry) (lambda .entry) (delta .entry)) (now (tables .entry)) (climbs (lent sizes (rows .entry) (lambda .entry) (delta .entry))) ⌝ }
+    ensures tables_left { λ _. ⌜ now (tables .exit) ≡ climbLeaves (lent sizes (rows .entry) (lambda .entry) (delta .entry)) (now (tables .entry)) ⌝ }
 {
     let n = sizes.n;
     let darts = sizes.darts;
@@ -105,7 +103,7 @@ fn climb(sizes: Sizes, rows: &[u16], lambda: &[u8], delta: &[u8], tables: &mut [
 
 // Have base rows, Λ, Δ and blocks of these lengths the exact ones?
 fn fit(sizes: Sizes, rows: usize, lambda: usize, delta: usize, tables: usize) -> bool
-    ensures { λ r. ⌜ r ≡ (eqb rows (suc (sizes .n .0) * sizes .darts) && (eqb lambda (sizes .darts) && (eqb delta (sizes .darts) && eqb tables (suc (sizes .h .0) * (suc (sizes .n .0) * sizes .darts))))) ⌝ }
+    ensures { λ r. ⌜ r ≡ blocksFit (sizes .n .0) (sizes .darts) (sizes .h .0) rows lambda delta tables ⌝ }
 {
     let blocks = (sizes.h.0 as usize + 1) * answers::entries(sizes.n, sizes.darts);
     let marks = answers::both(answers::row_fits(sizes.darts, delta), tables == blocks);

@@ -853,5 +853,8 @@ pub extern "C" fn zg_rebase(
         sizes,
         level: Level(level),
     };
-    base_as(sizes, starting_again::rebase(at, rows, lambda, delta, table, old))
+    base_as(
+        sizes,
+        starting_again::rebase(at, rows, lambda, delta, table, old),
+    )
 }
