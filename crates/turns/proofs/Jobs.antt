@@ -1,4 +1,4 @@
--- What each job reads of rows and table in its loops that depend on the data, added up. g are the darts with Λ below h, s the survivors of all levels. Assumes nothing.
+-- What each job reads of rows and table in its loops that depend on the data, added up. What a theorem asks (`Base`, `Leads`, `Linked`) is what the functions with these loops require, so it holds wherever they are run. Assumes nothing.
 use mathlib.Core.Path.{_≡_}
 use mathlib.Core.Bool.{Bool}
 use mathlib.Core.List.{List}
@@ -21,10 +21,10 @@ use Rattle.climbing.specs.Climb.{Base, climbsTo}
 use Rattle.counting.proofs.Levels.{climb-base}
 use Rattle.regions.specs.Searches.{Leads}
 use Rattle.turns.specs.Strings.{turnsAlong}
-use Rattle.turns.specs.Searches.{namedOrbits}
+use Rattle.turns.specs.Searches.{readOn, namedOrbits}
 use Rattle.turns.proofs.Climbs.{removed-rises, joined-turns}
 use Rattle.turns.proofs.Entries.{climbReads, checkReads, climb-reads, check-reads, relinks-reads}
-use Rattle.turns.proofs.Searches.{readOn, census-queues, regions-queues}
+use Rattle.turns.proofs.Searches.{census-queues, regions-queues}
 
 -- darts gone
 abbrev pub goneOf : Folded → ℕ
@@ -59,6 +59,6 @@ module _ (n N h : ℕ) (rows lambda delta table : List ℕ) (p : Accepted (ofPar
   abbrev f : Folded
   f = ofParts n N h rows lambda delta
 
-  pub census-reads : checkReads f table + climbReads f h + sum (readOn n N h rows lambda delta table p queue z cell is) (suc h) ≤ 2 * ((n + 8) * goneOf f) + sum (λ l. suc n * (n * survivors N (each lambda) l)) (suc h)
+  pub census-reads : checkReads f table + climbReads f h + sum (readOn f cell queue) (suc h) ≤ 2 * ((n + 8) * goneOf f) + sum (λ l. suc n * (n * survivors N (each lambda) l)) (suc h)
   census-reads =
       omega (arith, check-reads f table, climb-reads f (climb-base n N h rows lambda delta table p h (omega arith)) h (omega arith), census-queues n N h rows lambda delta table p queue z cell is .1)

@@ -11,7 +11,7 @@ use lib.Dec.{eqb, ltb}
 use Rattle.maps.specs.Count.{count, sum}
 use Rattle.maps.specs.Map.{Involutions}
 use Rattle.maps.specs.Table.{entry, each}
-use Rattle.maps.specs.Folded.{survives, survivors, marks, level, levelTable, ofParts}
+use Rattle.maps.specs.Folded.{survives, survivors, marks, level, levelTable, Folded, ofParts}
 use Rattle.maps.specs.Accepted.{Accepted}
 use Rattle.maps.specs.Explicit.{present}
 use Rattle.laws.proofs.Counting.{count-le, count-same, count-minus, sum-const}
@@ -25,7 +25,7 @@ use Rattle.orbits.specs.Choices.{chosen}
 use Rattle.regions.specs.Searches.{Leads as Asked}
 use Rattle.cells.specs.Marked.{failing, undivided}
 use Rattle.counting.proofs.Levels.{survivors-valid, table-explicit}
-use Rattle.turns.specs.Searches.{none, Work, begun, anew, searched, eachDart, inFirst, inSecond, nameStep, countStep, countedCells, namedOrbits, spoilStep, divideStep, pieceStep, spareStep, spoiled, divided, spared}
+use Rattle.turns.specs.Searches.{none, Work, begun, anew, searched, eachDart, inFirst, inSecond, nameStep, countStep, countedCells, queuedOn, readOn, namedOrbits, spoilStep, divideStep, pieceStep, spareStep, spoiled, divided, spared}
 use Rattle.turns.proofs.Counts.{count-within, sum-at-most}
 use Rattle.turns.proofs.Searching.{Leads, search-adds, search-reads}
 
@@ -108,6 +108,17 @@ fine-anew N within r before w g =
       reads = rw e (g .reads);
     }
 
+-- what a marking queues and reads, from what there is after `divide` and at the end
+pub record MarkingWork (N n : ℕ) (half whole : Work) : Type 0 where
+  -- in the queues of spoil, divide and spare together
+  pub cells : whole .firsts ≤ N
+  -- in the queues of parts
+  pub parts : half .seconds ≤ N
+  -- in the queues of pieces
+  pub pieces : whole .seconds ≤ N
+  -- entries that the searches read
+  pub entries : whole .entries ≤ suc n * (3 * N)
+
 -- an explicit level
 module _ (n N : ℕ) (table : List ℕ) (level : ExplicitLevel n N table) (cell part every : ℕ → ℕ → Bool) where
   -- whichever rows are used, they lead from a dart present to one present
@@ -186,18 +197,8 @@ module _ (n N : ℕ) (table : List ℕ) (level : ExplicitLevel n N table) (cell 
       go false true = refl
       go false false = refl
 
-  -- what a marking of dimension δ queues and reads
-  pub record MarkingWork (queue : List ℕ) (δ : ℕ) : Type 0 where
-    -- in the queues of spoil, divide and spare together
-    pub cells : spared n N table cell part every queue δ .firsts ≤ N
-    -- in the queues of parts
-    pub parts : divided n N table cell part every queue δ .seconds ≤ N
-    -- in the queues of pieces
-    pub pieces : spared n N table cell part every queue δ .seconds ≤ N
-    -- entries that the searches read
-    pub entries : spared n N table cell part every queue δ .entries ≤ suc n * (3 * N)
-
-  pub marking-queues : (queue : List ℕ) (δ : ℕ) → length queue ≡ 4096 → MarkingWork queue δ
+  -- whichever rows are taken for those of a cell, of a part and of a piece
+  pub marking-queues : (queue : List ℕ) (δ : ℕ) → length queue ≡ 4096 → MarkingWork N n (divided n N table cell part every queue δ) (spared n N table cell part every queue δ)
   marking-queues queue δ z =
       let P = present N table in
       let S = spoiled n N table cell part every queue δ in
@@ -256,15 +257,11 @@ but-count n i l = omega (arith, count-minus (λ j. true) i (suc n) (omega arith)
 -- a census of an accepted pyramid: on each level, for each dimension i, by every row but a_i
 module _ (n N h : ℕ) (rows lambda delta table : List ℕ) (p : Accepted (ofParts n N h rows lambda delta) table) (queue : ℕ → ℕ → List ℕ) (z : (l i : ℕ) → length (queue l i) ≡ 4096)
     (cell : ℕ → ℕ → ℕ → Bool) (is : (i j d : ℕ) → i ≤ n → j ≤ n → d < N → cell i j d ≡ but i j) where
-  abbrev pub T : ℕ → List ℕ
+  abbrev f : Folded
+  f = ofParts n N h rows lambda delta
+
+  abbrev T : ℕ → List ℕ
   T l = levelTable (entry N rows) n N h (each lambda) (each delta) l
-
-  -- the darts that the searches of level l queue, and the entries that they read
-  abbrev pub queuedOn : ℕ → ℕ
-  queuedOn l = sum (λ i. countedCells n N (T l) (cell i) (queue l i) .firsts) (suc n)
-
-  abbrev pub readOn : ℕ → ℕ
-  readOn l = sum (λ i. countedCells n N (T l) (cell i) (queue l i) .entries) (suc n)
 
   present-count : (l : ℕ) → l ≤ h → count (present N (T l)) N ≡ survivors N (each lambda) l
   present-count l k =
@@ -277,7 +274,7 @@ module _ (n N h : ℕ) (rows lambda delta table : List ℕ) (p : Accepted (ofPar
       rw (present-count l k) at (count-queues n N (T l) (table-explicit n N h rows lambda delta table p l k) (cell i) n
       (λ d ld. omega (arith, but-count n i li, count-same (λ j. cell i j d) (but i) (suc n) (λ j lj. is i j d li (omega arith) ld))) (queue l i) (z l i))
 
-  pub census-level : (l : ℕ) → l ≤ h → (queuedOn l ≤ suc n * survivors N (each lambda) l) × (readOn l ≤ suc n * (n * survivors N (each lambda) l))
+  pub census-level : (l : ℕ) → l ≤ h → (queuedOn f cell queue l ≤ suc n * survivors N (each lambda) l) × (readOn f cell queue l ≤ suc n * (n * survivors N (each lambda) l))
   census-level l k =
       let S = survivors N (each lambda) l in
       let W : ℕ → Work = λ i. countedCells n N (T l) (cell i) (queue l i) in (
@@ -286,10 +283,10 @@ module _ (n N h : ℕ) (rows lambda delta table : List ℕ) (p : Accepted (ofPar
       )
 
   -- all levels together: (n+1) darts queued, and n(n+1) entries read, for each survivor of each level
-  pub census-queues : (sum queuedOn (suc h) ≤ sum (λ l. suc n * survivors N (each lambda) l) (suc h)) × (sum readOn (suc h) ≤ sum (λ l. suc n * (n * survivors N (each lambda) l)) (suc h))
+  pub census-queues : (sum (queuedOn f cell queue) (suc h) ≤ sum (λ l. suc n * survivors N (each lambda) l) (suc h)) × (sum (readOn f cell queue) (suc h) ≤ sum (λ l. suc n * (n * survivors N (each lambda) l)) (suc h))
   census-queues = (
-    sum-at-most queuedOn (λ l. suc n * survivors N (each lambda) l) (suc h) (λ l k. census-level l (omega arith) .0),
-    sum-at-most readOn (λ l. suc n * (n * survivors N (each lambda) l)) (suc h) (λ l k. census-level l (omega arith) .1),
+    sum-at-most (queuedOn f cell queue) (λ l. suc n * survivors N (each lambda) l) (suc h) (λ l k. census-level l (omega arith) .0),
+    sum-at-most (readOn f cell queue) (λ l. suc n * (n * survivors N (each lambda) l)) (suc h) (λ l k. census-level l (omega arith) .1),
   )
 
 -- region names: the orbits of all darts of the base, by the rows of their choices, which lead to darts

@@ -7,6 +7,8 @@ use Rattle.maps.specs.Count.{count, sum}
 use Rattle.maps.specs.Map.{Involutions}
 use Rattle.maps.specs.Table.{entry}
 use Rattle.maps.specs.Explicit.{present}
+use Rattle.maps.specs.Folded.{Folded}
+use Rattle.maps.specs.CheckPyramid.{tableAt}
 use Rattle.orbits.specs.Search.{State, has, state, pushed, turns}
 use Rattle.cells.specs.Marked.{failing, undivided}
 
@@ -68,6 +70,14 @@ countStep n N table cell w d = cond (present N table d && not (has (w .first) d)
 -- and at all of them
 abbrev pub countedCells : ℕ → ℕ → List ℕ → (ℕ → ℕ → Bool) → List ℕ → Work
 countedCells n N table cell queue = eachDart (countStep n N table cell) (begun queue) N
+
+-- the darts that a census queues on level l, in all dimensions, by the rows of an i-cell
+abbrev pub queuedOn : Folded → (ℕ → ℕ → ℕ → Bool) → (ℕ → ℕ → List ℕ) → ℕ → ℕ
+queuedOn f cell queue l = sum (λ i. countedCells (f .n) (f .N) (tableAt f l) (cell i) (queue l i) .firsts) (suc (f .n))
+
+-- and the entries that its searches read there
+abbrev pub readOn : Folded → (ℕ → ℕ → ℕ → Bool) → (ℕ → ℕ → List ℕ) → ℕ → ℕ
+readOn f cell queue l = sum (λ i. countedCells (f .n) (f .N) (tableAt f l) (cell i) (queue l i) .entries) (suc (f .n))
 
 -- the orbits named, of all darts of the base, by the rows of each dart's choice; `give` takes the queue of each search once more
 abbrev pub namedOrbits : Involutions → ℕ → ℕ → (ℕ → ℕ → Bool) → List ℕ → Work
