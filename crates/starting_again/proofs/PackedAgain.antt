@@ -14,7 +14,7 @@ use Rattle.maps.specs.Verdict.{accepted}
 use Rattle.maps.specs.Sizes.{number4}
 use Rattle.maps.specs.Mark.{stay}
 use Rattle.maps.specs.Table.{entry, each, absent}
-use Rattle.maps.specs.Folded.{On, survives, marks, level, ofParts}
+use Rattle.maps.specs.Folded.{Folded, On, survives, marks, level, ofParts}
 use Rattle.maps.specs.Cost.{reads}
 use Rattle.maps.specs.Pyramid.{Pyramid}
 use Rattle.maps.specs.CheckPyramid.{checkLent}
@@ -46,30 +46,36 @@ module _ (value : ℕ → ℕ) (m filler size : ℕ) (fits : m ≤ size) where
   unfolding packed
   front-length = length-take-le m (packed value m filler size) (omega (arith, length-listed (λ z. cond (ltb z m) (value z) filler) size))
 
--- What the job leaves where it does not refuse.
-pub record PackedAgain (n N h : ℕ) (rows lambda delta : List ℕ) (l N′ h′ : ℕ) (rows′ lambda′ delta′ old′ : List ℕ) : Type 0 where
-  -- level l has darts, and no more than before
-  pub some : 1 ≤ N′
-  pub few : N′ ≤ N
-  -- the packed parts are level l of the pyramid lent, under new numbers, with Λ and h reduced by l; so all that `Renumbered` gives holds of them
-  pub renumbered : Renumbered (entry N rows) n N h (each lambda) (each delta) l (entry N′ (take (suc n * N′) rows′)) N′ h′ (each (take N′ lambda′)) (each (take N′ delta′)) (each old′)
-  -- they are all its survivors, in their order
-  pub as-many : N′ ≡ newDarts N (each lambda) l
-  pub rising : (d : ℕ) → d < N′ → each old′ d ≡ oldNumber N (each lambda) l d
-  -- no survivor of level l is left out: its rank is a new dart, whose old number is the survivor's
-  pub every : (d : ℕ) → On N (each lambda) l d → (rank (each lambda) l d < N′) × (each old′ (rank (each lambda) l d) ≡ d)
-  -- level k of them is the old level l + k, under the new numbers
-  pub neighbour : (k i d : ℕ) → k ≤ h′ → i ≤ n → On N′ (each (take N′ lambda′)) k d
-      → each old′ (level (entry N′ (take (suc n * N′) rows′)) n N′ (marks h′ (each (take N′ lambda′)) (each (take N′ delta′))) k i d) ≡ level (entry N rows) n N (marks h (each lambda) (each delta)) (l + k) i (each old′ d)
-  -- demand 3, with reads counted in the new base
-  pub facts : (k : ℕ) → k ≤ h′ → Facts (entry N′ (take (suc n * N′) rows′)) n N′ h′ (each (take N′ lambda′)) (each (take N′ delta′)) k
-  -- a walk reads no more entries than the old walk of the same dart
-  pub no-more : (k i d : ℕ) → k ≤ h′ → i ≤ n → On N′ (each (take N′ lambda′)) k d
-      → reads (entry N′ (take (suc n * N′) rows′)) n N′ h′ (each (take N′ lambda′)) (each (take N′ delta′)) k i d ≤ reads (entry N rows) n N h (each lambda) (each delta) (l + k) i (each old′ d)
-  -- lent again, in their new lengths, they are accepted
-  pub accepted-again : (table′ : List ℕ) → length table′ ≡ suc n * N′ → checkLent (ofParts n N′ h′ (take (suc n * N′) rows′) (take N′ lambda′) (take N′ delta′)) table′ ≡ accepted
+-- of a pyramid lent, and of what is left of it
+module _ (P : Folded) (l N′ h′ : ℕ) (rows′ lambda′ delta′ old′ : List ℕ) where
+  open Folded P using (n, N, h, rows, lambda, delta)
 
-module _ (n N h : ℕ) (rows lambda delta table : List ℕ) (l : ℕ) (old : List ℕ) (e : rebaseLent (ofParts n N h rows lambda delta) table l old ≡ accepted) where
+  -- What the job leaves where it does not refuse.
+  pub record PackedAgain : Type 0 where
+    -- level l has darts, and no more than before
+    pub some : 1 ≤ N′
+    pub few : N′ ≤ N
+    -- the packed parts are level l of the pyramid lent, under new numbers, with Λ and h reduced by l; so all that `Renumbered` gives holds of them
+    pub renumbered : Renumbered (entry N rows) n N h (each lambda) (each delta) l (entry N′ (take (suc n * N′) rows′)) N′ h′ (each (take N′ lambda′)) (each (take N′ delta′)) (each old′)
+    -- they are all its survivors, in their order
+    pub as-many : N′ ≡ newDarts N (each lambda) l
+    pub rising : (d : ℕ) → d < N′ → each old′ d ≡ oldNumber N (each lambda) l d
+    -- no survivor of level l is left out: its rank is a new dart, whose old number is the survivor's
+    pub every : (d : ℕ) → On N (each lambda) l d → (rank (each lambda) l d < N′) × (each old′ (rank (each lambda) l d) ≡ d)
+    -- level k of them is the old level l + k, under the new numbers
+    pub neighbour : (k i d : ℕ) → k ≤ h′ → i ≤ n → On N′ (each (take N′ lambda′)) k d
+        → each old′ (level (entry N′ (take (suc n * N′) rows′)) n N′ (marks h′ (each (take N′ lambda′)) (each (take N′ delta′))) k i d) ≡ level (entry N rows) n N (marks h (each lambda) (each delta)) (l + k) i (each old′ d)
+    -- demand 3, with reads counted in the new base
+    pub facts : (k : ℕ) → k ≤ h′ → Facts (entry N′ (take (suc n * N′) rows′)) n N′ h′ (each (take N′ lambda′)) (each (take N′ delta′)) k
+    -- a walk reads no more entries than the old walk of the same dart
+    pub no-more : (k i d : ℕ) → k ≤ h′ → i ≤ n → On N′ (each (take N′ lambda′)) k d
+        → reads (entry N′ (take (suc n * N′) rows′)) n N′ h′ (each (take N′ lambda′)) (each (take N′ delta′)) k i d ≤ reads (entry N rows) n N h (each lambda) (each delta) (l + k) i (each old′ d)
+    -- lent again, in their new lengths, they are accepted
+    pub accepted-again : (table′ : List ℕ) → length table′ ≡ suc n * N′ → checkLent (ofParts n N′ h′ (take (suc n * N′) rows′) (take N′ lambda′) (take N′ delta′)) table′ ≡ accepted
+
+module _ (P : Folded) (table : List ℕ) (l : ℕ) (old : List ℕ) (e : rebaseLent P table l old ≡ accepted) where
+  open Folded P using (n, N, h, rows, lambda, delta)
+
   abbrev a : ℕ → ℕ → ℕ
   a = entry N rows
 
@@ -86,12 +92,12 @@ module _ (n N h : ℕ) (rows lambda delta table : List ℕ) (l : ℕ) (old : Lis
   H = newHeight h l
 
   -- an accepted job has passed all its tests
-  found : Passed n N h rows lambda delta table l old
-  found = passed n N h rows lambda delta table l old e
+  found : Passed P table l old
+  found = passed P table l old e
 
   -- what is lent is an accepted pyramid
   pub lent-pyramid : Pyramid a n N h Λ Δ
-  lent-pyramid = accepted-pyramid (ofParts n N h rows lambda delta) table (found .checked)
+  lent-pyramid = accepted-pyramid P table (found .checked)
 
   -- there are no more darts than before
   fewer-darts : D ≤ N
@@ -151,9 +157,9 @@ module _ (n N h : ℕ) (rows lambda delta table : List ℕ) (l : ℕ) (old : Lis
       )
 
   -- the job, where it does not refuse, leaves the new pyramid packed to the front
-  pub packed-again : PackedAgain n N h rows lambda delta l
-      (rebaseDarts (ofParts n N h rows lambda delta) table l old) (rebaseHeight (ofParts n N h rows lambda delta) table l old) (rebaseRows (ofParts n N h rows lambda delta) table l old)
-      (rebaseLambda (ofParts n N h rows lambda delta) table l old) (rebaseDelta (ofParts n N h rows lambda delta) table l old) (rebaseOld (ofParts n N h rows lambda delta) table l old)
+  pub packed-again : PackedAgain P l
+      (rebaseDarts P table l old) (rebaseHeight P table l old) (rebaseRows P table l old)
+      (rebaseLambda P table l old) (rebaseDelta P table l old) (rebaseOld P table l old)
   unfolding rebaseDarts rebaseHeight rebaseRows rebaseLambda rebaseDelta rebaseOld
   packed-again =
       rw e

@@ -8,7 +8,6 @@ use Rattle.facts.proofs.Star.{star-pyramid}
 use Rattle.maps.specs.NewBase.{newBase, newDarts, newHeight, newΛ, newΔ}
 use Rattle.maps.specs.Rebase.{rebaseDarts, rebaseHeight, rebaseRows, rebaseLambda, rebaseDelta, rebaseOld}
 use Rattle.maps.proofs.StarAgain.{zeros, star-again}
-use Rattle.maps.specs.Folded.{ofParts}
 use Rattle.starting_again.proofs.StartingAgain.{started-again}
 use Rattle.starting_again.proofs.PackedAgain.{PackedAgain, packed-again}
 
@@ -17,11 +16,11 @@ pub star-no-dearer : cost (newBase (entry 12 (star .rows)) 2 12 2 (each (star .l
 star-no-dearer = started-again (entry 12 (star .rows)) 2 12 2 (each (star .lambda)) (each (star .delta)) star-pyramid 1 (lit≤ tt) .no-dearer 1 (lit≤ tt)
 
 -- what the job leaves of the star
-pub star-packed : PackedAgain 2 12 2 (star .rows) (star .lambda) (star .delta) 1
-    (rebaseDarts (ofParts 2 12 2 (star .rows) (star .lambda) (star .delta)) (zeros 36) 1 (zeros 12))
-    (rebaseHeight (ofParts 2 12 2 (star .rows) (star .lambda) (star .delta)) (zeros 36) 1 (zeros 12))
-    (rebaseRows (ofParts 2 12 2 (star .rows) (star .lambda) (star .delta)) (zeros 36) 1 (zeros 12))
-    (rebaseLambda (ofParts 2 12 2 (star .rows) (star .lambda) (star .delta)) (zeros 36) 1 (zeros 12))
-    (rebaseDelta (ofParts 2 12 2 (star .rows) (star .lambda) (star .delta)) (zeros 36) 1 (zeros 12))
-    (rebaseOld (ofParts 2 12 2 (star .rows) (star .lambda) (star .delta)) (zeros 36) 1 (zeros 12))
-star-packed = packed-again 2 12 2 (star .rows) (star .lambda) (star .delta) (zeros 36) 1 (zeros 12) (star-again .verdict)
+pub star-packed : PackedAgain star 1
+    (rebaseDarts star (zeros 36) 1 (zeros 12))
+    (rebaseHeight star (zeros 36) 1 (zeros 12))
+    (rebaseRows star (zeros 36) 1 (zeros 12))
+    (rebaseLambda star (zeros 36) 1 (zeros 12))
+    (rebaseDelta star (zeros 36) 1 (zeros 12))
+    (rebaseOld star (zeros 36) 1 (zeros 12))
+star-packed = packed-again star (zeros 36) 1 (zeros 12) (star-again .verdict)

@@ -15,13 +15,15 @@ use Rattle.maps.specs.Rebase.{rebaseLent, rebaseTable}
 use Rattle.laws.proofs.Verdicts.{not-refused, then-accepted, then-two, when-accepted}
 use Rattle.laws.proofs.Sizes.{lengths-exact}
 use Rattle.laws.proofs.Lent.{with-leaves, with-lent}
-use Rattle.maps.specs.Folded.{ofParts}
+use Rattle.maps.specs.Folded.{Folded}
 use Rattle.answers.specs.Numbers.{refusalOf}
 use Rattle.answers.specs.Lent.{lentOf}
 use Rattle.answers.specs.declared.Refusal.{Refusal}
 use Rattle.answers.proofs.Refusals.{refusal-refuses, refused-then}
 
-module _ (n N h : ℕ) (rows lambda delta table : List ℕ) (l : ℕ) (old : List ℕ) where
+module _ (P : Folded) (table : List ℕ) (l : ℕ) (old : List ℕ) where
+  open Folded P using (n, N, h, rows, lambda, delta)
+
   abbrev D : ℕ
   D = newDarts N (each lambda) l
 
@@ -29,7 +31,7 @@ module _ (n N h : ℕ) (rows lambda delta table : List ℕ) (l : ℕ) (old : Lis
   S = lentOf n N h (hasLength old N)
 
   abbrev C : Verdict
-  C = checkLent (ofParts n N h rows lambda delta) table
+  C = checkLent P table
 
   abbrev L : Verdict
   L = number11 h l 0 0
@@ -37,7 +39,7 @@ module _ (n N h : ℕ) (rows lambda delta table : List ℕ) (l : ℕ) (old : Lis
   abbrev Z : Verdict
   Z = when (eqb D 0) (refused 2 0 0 0)
 
-  tests : rebaseLent (ofParts n N h rows lambda delta) table l old ≡ (S then (C then (L then Z)))
+  tests : rebaseLent P table l old ≡ (S then (C then (L then Z)))
   unfolding rebaseLent checkWith
   tests =
       let s = sizes n N h in
@@ -48,11 +50,11 @@ module _ (n N h : ℕ) (rows lambda delta table : List ℕ) (l : ℕ) (old : Lis
   pub record Passed : Type 0 where
     pub sized : sizes n N h ≡ accepted
     pub old-long : length old ≡ N
-    pub checked : checkLent (ofParts n N h rows lambda delta) table ≡ accepted
+    pub checked : checkLent P table ≡ accepted
     pub low : l ≤ h
     pub some : 1 ≤ newDarts N (each lambda) l
 
-  pub passed : rebaseLent (ofParts n N h rows lambda delta) table l old ≡ accepted → Passed
+  pub passed : rebaseLent P table l old ≡ accepted → Passed
   unfolding number11
   passed e =
       let r = then-accepted S (C then (L then Z)) (sym tests ∙ e) in
@@ -70,21 +72,21 @@ module _ (n N h : ℕ) (rows lambda delta table : List ℕ) (l : ℕ) (old : Lis
 
   -- the verdict, and what is left in the table
   abbrev Answers : Verdict → List ℕ → Type 0
-  Answers v after = (v ≡ rebaseLent (ofParts n N h rows lambda delta) table l old) × (after ≡ rebaseTable (ofParts n N h rows lambda delta) table l old)
+  Answers v after = (v ≡ rebaseLent P table l old) × (after ≡ rebaseTable P table l old)
 
   -- 1 to 4 of the row of old numbers
   pub sizes-refused : (r : Refusal) → refusalOf r ≡ S → Answers (refusalOf r) table
   unfolding rebaseTable
   sizes-refused r e =
       let x = refusal-refuses r in
-      (refused-then r S (C then (L then Z)) e ∙ sym tests, sym (with-lent (ofParts n N h rows lambda delta) table (hasLength old N) (λ q. not-refused (sym (x .is) ∙ e ∙ q))))
+      (refused-then r S (C then (L then Z)) e ∙ sym tests, sym (with-lent P table (hasLength old N) (λ q. not-refused (sym (x .is) ∙ e ∙ q))))
 
-  module _ (s : accepted ≡ S) {after : List ℕ} (leaves : after ≡ checkLeaves (ofParts n N h rows lambda delta) table) where
-    left : after ≡ rebaseTable (ofParts n N h rows lambda delta) table l old
+  module _ (s : accepted ≡ S) {after : List ℕ} (leaves : after ≡ checkLeaves P table) where
+    left : after ≡ rebaseTable P table l old
     unfolding rebaseTable
     left =
         let fit = lengths-exact (hasLength old N) (then-accepted (sizes n N h) (number4 (hasLength old N)) (sym s) .1) in
-        leaves ∙ sym (with-leaves (ofParts n N h rows lambda delta) table (hasLength old N) fit)
+        leaves ∙ sym (with-leaves P table (hasLength old N) fit)
 
     -- the check's own
     pub check-refused : (r : Refusal) → refusalOf r ≡ C → Answers (refusalOf r) after

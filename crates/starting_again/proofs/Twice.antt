@@ -17,7 +17,7 @@ use Rattle.maps.specs.Count.{count}
 use Rattle.maps.specs.Map.{Involutions}
 use Rattle.maps.specs.Mark.{stay}
 use Rattle.maps.specs.Table.{entry, each, listed, absent}
-use Rattle.maps.specs.Folded.{On, gone, survives, marks, level, ofParts}
+use Rattle.maps.specs.Folded.{On, gone, survives, marks, level, Folded, base, lambdaOf, deltaOf, ofParts}
 use Rattle.maps.specs.Pyramid.{Pyramid}
 use Rattle.maps.specs.NewBase.{kth, rank, oldNumber, newDarts, newΛ, newΔ, newBase}
 use Rattle.maps.specs.Rebase.{packed, rebaseLent, rebaseDarts, rebaseHeight, rebaseRows, rebaseLambda, rebaseDelta, rebaseOld}
@@ -113,11 +113,13 @@ pub record Twice (n N₂ h₂ N₃ h₃ : ℕ) (rows₂ lambda₂ delta₂ rows�
   pub old : (x : ℕ) → x < N₃ → each old₁ (each old₂ x) ≡ each old₃ x
 
 -- of lists that hold level l under new numbers
-module _ (n N h : ℕ) (rows lambda delta : List ℕ) (y : Pyramid (entry N rows) n N h (each lambda) (each delta)) (l N₁ h₁ : ℕ) (rows₁ lambda₁ delta₁ old₁ : List ℕ)
-    (r : Renumbered (entry N rows) n N h (each lambda) (each delta) l (entry N₁ rows₁) N₁ h₁ (each lambda₁) (each delta₁) (each old₁))
-    (all : N₁ ≡ newDarts N (each lambda) l) (rising : (d : ℕ) → d < N₁ → each old₁ d ≡ oldNumber N (each lambda) l d)
-    (table₂ : List ℕ) (k : ℕ) (old₂ : List ℕ) (e₂ : rebaseLent (ofParts n N₁ h₁ rows₁ lambda₁ delta₁) table₂ k old₂ ≡ accepted)
-    (table₃ old₃ : List ℕ) (e₃ : rebaseLent (ofParts n N h rows lambda delta) table₃ (l + k) old₃ ≡ accepted) where
+module _ (P : Folded) (y : Pyramid (base P) (P .n) (P .N) (P .h) (lambdaOf P) (deltaOf P)) (l N₁ h₁ : ℕ) (rows₁ lambda₁ delta₁ old₁ : List ℕ)
+    (r : Renumbered (base P) (P .n) (P .N) (P .h) (lambdaOf P) (deltaOf P) l (entry N₁ rows₁) N₁ h₁ (each lambda₁) (each delta₁) (each old₁))
+    (all : N₁ ≡ newDarts (P .N) (lambdaOf P) l) (rising : (d : ℕ) → d < N₁ → each old₁ d ≡ oldNumber (P .N) (lambdaOf P) l d)
+    (table₂ : List ℕ) (k : ℕ) (old₂ : List ℕ) (e₂ : rebaseLent (ofParts (P .n) N₁ h₁ rows₁ lambda₁ delta₁) table₂ k old₂ ≡ accepted)
+    (table₃ old₃ : List ℕ) (e₃ : rebaseLent P table₃ (l + k) old₃ ≡ accepted) where
+  open Folded P using (n, N, h, rows, lambda, delta)
+
   abbrev D₂ : ℕ
   D₂ = newDarts N₁ (each lambda₁) k
 
@@ -145,7 +147,7 @@ module _ (n N h : ℕ) (rows lambda delta : List ℕ) (y : Pyramid (entry N rows
       front-is _ (suc n * D₂) absent (suc n * N₁) (mul-le-mul-left (suc n) few₂)
       ∙ listed-same _ (row D₂) (suc n * D₂) (λ x lx.
       let w = place n D₂ x lx in
-      base-twice (entry N rows) n N h (each lambda) (each delta) y l (entry N₁ rows₁) N₁ h₁ (each lambda₁) (each delta₁) (each old₁) r all rising k (passed n N₁ h₁ rows₁ lambda₁ delta₁ table₂ k old₂ e₂ .low) (x / D₂) (x % D₂) (w .0) (w .1))
+      base-twice (entry N rows) n N h (each lambda) (each delta) y l (entry N₁ rows₁) N₁ h₁ (each lambda₁) (each delta₁) (each old₁) r all rising k (passed (ofParts n N₁ h₁ rows₁ lambda₁ delta₁) table₂ k old₂ e₂ .low) (x / D₂) (x % D₂) (w .0) (w .1))
       ∙ ap (λ (m : ℕ). listed (row m) (suc n * m)) as-many
       ∙ sym (front-is (row D₃) (suc n * D₃) absent (suc n * N) (mul-le-mul-left (suc n) few₃))
 
@@ -157,10 +159,10 @@ module _ (n N h : ℕ) (rows lambda delta : List ℕ) (y : Pyramid (entry N rows
       ∙ old-twice (entry N rows) n N h (each lambda) (each delta) y l (entry N₁ rows₁) N₁ h₁ (each lambda₁) (each delta₁) (each old₁) r all rising k x l₂
       ∙ sym (packed-at (oldNumber N (each lambda) (l + k)) D₃ absent N few₃ x lx)
 
-  pub twice : Twice n (rebaseDarts (ofParts n N₁ h₁ rows₁ lambda₁ delta₁) table₂ k old₂) (rebaseHeight (ofParts n N₁ h₁ rows₁ lambda₁ delta₁) table₂ k old₂) (rebaseDarts (ofParts n N h rows lambda delta) table₃ (l + k) old₃) (rebaseHeight (ofParts n N h rows lambda delta) table₃ (l + k) old₃)
+  pub twice : Twice n (rebaseDarts (ofParts n N₁ h₁ rows₁ lambda₁ delta₁) table₂ k old₂) (rebaseHeight (ofParts n N₁ h₁ rows₁ lambda₁ delta₁) table₂ k old₂) (rebaseDarts P table₃ (l + k) old₃) (rebaseHeight P table₃ (l + k) old₃)
       (rebaseRows (ofParts n N₁ h₁ rows₁ lambda₁ delta₁) table₂ k old₂) (rebaseLambda (ofParts n N₁ h₁ rows₁ lambda₁ delta₁) table₂ k old₂) (rebaseDelta (ofParts n N₁ h₁ rows₁ lambda₁ delta₁) table₂ k old₂)
-      (rebaseRows (ofParts n N h rows lambda delta) table₃ (l + k) old₃) (rebaseLambda (ofParts n N h rows lambda delta) table₃ (l + k) old₃) (rebaseDelta (ofParts n N h rows lambda delta) table₃ (l + k) old₃)
-      old₁ (rebaseOld (ofParts n N₁ h₁ rows₁ lambda₁ delta₁) table₂ k old₂) (rebaseOld (ofParts n N h rows lambda delta) table₃ (l + k) old₃)
+      (rebaseRows P table₃ (l + k) old₃) (rebaseLambda P table₃ (l + k) old₃) (rebaseDelta P table₃ (l + k) old₃)
+      old₁ (rebaseOld (ofParts n N₁ h₁ rows₁ lambda₁ delta₁) table₂ k old₂) (rebaseOld P table₃ (l + k) old₃)
   unfolding rebaseDarts rebaseHeight rebaseRows rebaseLambda rebaseDelta rebaseOld
   twice =
       rw (e₂, e₃)
@@ -174,38 +176,40 @@ module _ (n N h : ℕ) (rows lambda delta : List ℕ) (y : Pyramid (entry N rows
       })
 
 -- Where starting again from l, and then with the fronts from k, is accepted, so is starting again from l + k, and leaves the same.
-module _ (n N h : ℕ) (rows lambda delta table : List ℕ) (l : ℕ) (old : List ℕ) (e : rebaseLent (ofParts n N h rows lambda delta) table l old ≡ accepted) where
+module _ (P : Folded) (table : List ℕ) (l : ℕ) (old : List ℕ) (e : rebaseLent P table l old ≡ accepted) where
+  open Folded P using (n, N, h, rows, lambda, delta)
+
   abbrev N₁ : ℕ
-  N₁ = rebaseDarts (ofParts n N h rows lambda delta) table l old
+  N₁ = rebaseDarts P table l old
 
   abbrev h₁ : ℕ
-  h₁ = rebaseHeight (ofParts n N h rows lambda delta) table l old
+  h₁ = rebaseHeight P table l old
 
   abbrev rows₁ : List ℕ
-  rows₁ = take (suc n * N₁) (rebaseRows (ofParts n N h rows lambda delta) table l old)
+  rows₁ = take (suc n * N₁) (rebaseRows P table l old)
 
   abbrev lambda₁ : List ℕ
-  lambda₁ = take N₁ (rebaseLambda (ofParts n N h rows lambda delta) table l old)
+  lambda₁ = take N₁ (rebaseLambda P table l old)
 
   abbrev delta₁ : List ℕ
-  delta₁ = take N₁ (rebaseDelta (ofParts n N h rows lambda delta) table l old)
+  delta₁ = take N₁ (rebaseDelta P table l old)
 
   abbrev old₁ : List ℕ
-  old₁ = rebaseOld (ofParts n N h rows lambda delta) table l old
+  old₁ = rebaseOld P table l old
 
-  packed₁ : PackedAgain n N h rows lambda delta l N₁ h₁ (rebaseRows (ofParts n N h rows lambda delta) table l old) (rebaseLambda (ofParts n N h rows lambda delta) table l old) (rebaseDelta (ofParts n N h rows lambda delta) table l old) old₁
-  packed₁ = packed-again n N h rows lambda delta table l old e
+  packed₁ : PackedAgain P l N₁ h₁ (rebaseRows P table l old) (rebaseLambda P table l old) (rebaseDelta P table l old) old₁
+  packed₁ = packed-again P table l old e
 
   lent : Pyramid (entry N rows) n N h (each lambda) (each delta)
-  lent = lent-pyramid n N h rows lambda delta table l old e
+  lent = lent-pyramid P table l old e
 
   module _ (table₂ : List ℕ) (k : ℕ) (old₂ : List ℕ) (e₂ : rebaseLent (ofParts n N₁ h₁ rows₁ lambda₁ delta₁) table₂ k old₂ ≡ accepted)
       (table₃ old₃ : List ℕ) (long : length table₃ ≡ suc n * N) (old-long : length old₃ ≡ N) where
     -- the check looks at the table's length alone
-    checked-at-once : checkLent (ofParts n N h rows lambda delta) table₃ ≡ accepted
+    checked-at-once : checkLent P table₃ ≡ accepted
     checked-at-once =
-        let q = check-accepts (ofParts n N h rows lambda delta) table (passed n N h rows lambda delta table l old e .checked) in
-        accepted-check (ofParts n N h rows lambda delta) table₃
+        let q = check-accepts P table (passed P table l old e .checked) in
+        accepted-check P table₃
         (record {
           dimension = q .dimension;
           darts = q .darts;
@@ -219,18 +223,18 @@ module _ (n N h : ℕ) (rows lambda delta table : List ℕ) (l : ℕ) (old : Lis
 
     sized-at-once : lentOf n N h (hasLength old₃ N) ≡ accepted
     unfolding number4
-    sized-at-once = rw (passed n N h rows lambda delta table l old e .sized, eq-eqb (length old₃) N old-long)
+    sized-at-once = rw (passed P table l old e .sized, eq-eqb (length old₃) N old-long)
 
     -- starting again from l + k at once is accepted
-    pub at-once : rebaseLent (ofParts n N h rows lambda delta) table₃ (l + k) old₃ ≡ accepted
+    pub at-once : rebaseLent P table₃ (l + k) old₃ ≡ accepted
     at-once =
-        let f = passed n N₁ h₁ rows₁ lambda₁ delta₁ table₂ k old₂ e₂ in
+        let f = passed (ofParts n N₁ h₁ rows₁ lambda₁ delta₁) table₂ k old₂ e₂ in
         let same = darts-twice (entry N rows) n N h (each lambda) (each delta) lent l (entry N₁ rows₁) N₁ h₁ (each lambda₁) (each delta₁) (each old₁) (packed₁ .renumbered) (packed₁ .as-many) (packed₁ .rising) k in
-        sym (all-passed n N h rows lambda delta table₃ (l + k) old₃ (sym sized-at-once) refl (sym checked-at-once) (omega (arith, packed₁ .renumbered .height, f .low)) (λ z. omega (arith, same, f .some, z)) .0)
+        sym (all-passed P table₃ (l + k) old₃ (sym sized-at-once) refl (sym checked-at-once) (omega (arith, packed₁ .renumbered .height, f .low)) (λ z. omega (arith, same, f .some, z)) .0)
 
     -- and leaves the same
-    pub again-twice : Twice n (rebaseDarts (ofParts n N₁ h₁ rows₁ lambda₁ delta₁) table₂ k old₂) (rebaseHeight (ofParts n N₁ h₁ rows₁ lambda₁ delta₁) table₂ k old₂) (rebaseDarts (ofParts n N h rows lambda delta) table₃ (l + k) old₃) (rebaseHeight (ofParts n N h rows lambda delta) table₃ (l + k) old₃)
+    pub again-twice : Twice n (rebaseDarts (ofParts n N₁ h₁ rows₁ lambda₁ delta₁) table₂ k old₂) (rebaseHeight (ofParts n N₁ h₁ rows₁ lambda₁ delta₁) table₂ k old₂) (rebaseDarts P table₃ (l + k) old₃) (rebaseHeight P table₃ (l + k) old₃)
         (rebaseRows (ofParts n N₁ h₁ rows₁ lambda₁ delta₁) table₂ k old₂) (rebaseLambda (ofParts n N₁ h₁ rows₁ lambda₁ delta₁) table₂ k old₂) (rebaseDelta (ofParts n N₁ h₁ rows₁ lambda₁ delta₁) table₂ k old₂)
-        (rebaseRows (ofParts n N h rows lambda delta) table₃ (l + k) old₃) (rebaseLambda (ofParts n N h rows lambda delta) table₃ (l + k) old₃) (rebaseDelta (ofParts n N h rows lambda delta) table₃ (l + k) old₃)
-        old₁ (rebaseOld (ofParts n N₁ h₁ rows₁ lambda₁ delta₁) table₂ k old₂) (rebaseOld (ofParts n N h rows lambda delta) table₃ (l + k) old₃)
-    again-twice = twice n N h rows lambda delta lent l N₁ h₁ rows₁ lambda₁ delta₁ old₁ (packed₁ .renumbered) (packed₁ .as-many) (packed₁ .rising) table₂ k old₂ e₂ table₃ old₃ at-once
+        (rebaseRows P table₃ (l + k) old₃) (rebaseLambda P table₃ (l + k) old₃) (rebaseDelta P table₃ (l + k) old₃)
+        old₁ (rebaseOld (ofParts n N₁ h₁ rows₁ lambda₁ delta₁) table₂ k old₂) (rebaseOld P table₃ (l + k) old₃)
+    again-twice = twice P lent l N₁ h₁ rows₁ lambda₁ delta₁ old₁ (packed₁ .renumbered) (packed₁ .as-many) (packed₁ .rising) table₂ k old₂ e₂ table₃ old₃ at-once

@@ -8,7 +8,7 @@ use borrow.Author.Tests.{ltb-false, not-true}
 use Rattle.maps.specs.Verdict.{accepted}
 use Rattle.maps.specs.Mark.{stay}
 use Rattle.maps.specs.Table.{entry, each, absent}
-use Rattle.maps.specs.Folded.{On, gone, survives, marks, level, levelTable, ofParts}
+use Rattle.maps.specs.Folded.{On, gone, survives, marks, level, levelTable, Folded}
 use Rattle.maps.specs.NewBase.{rank, oldNumber, newDarts, newHeight, newΛ, newΔ, newBase}
 use Rattle.maps.specs.Rebase.{packed, rebaseLent, rebaseDarts, rebaseHeight, rebaseRows, rebaseLambda, rebaseDelta, rebaseOld}
 use Rattle.laws.proofs.Tables.{entry-explicit, length-explicit, place}
@@ -25,20 +25,22 @@ use Rattle.starting_again.proofs.Numbering.{kth-is}
 use Rattle.starting_again.proofs.Packs.{packed-same}
 use Rattle.starting_again.proofs.Tests.{passed}
 
-module _ (n N h : ℕ) (rows lambda delta table : List ℕ) (l : ℕ) (old : List ℕ) where
+module _ (P : Folded) (table : List ℕ) (l : ℕ) (old : List ℕ) where
+  open Folded P using (n, N, h, rows, lambda, delta)
+
   -- the answer, and what is left in rows, Λ, Δ and the row of old numbers
   pub record Answers (o : Outcome) (rows′ lambda′ delta′ old′ : List ℕ) : Type 0 where
-    pub outcome : o ≡ rebasing (ofParts n N h rows lambda delta) table l old
-    pub rows-left : rows′ ≡ rebaseRows (ofParts n N h rows lambda delta) table l old
-    pub lambda-left : lambda′ ≡ rebaseLambda (ofParts n N h rows lambda delta) table l old
-    pub delta-left : delta′ ≡ rebaseDelta (ofParts n N h rows lambda delta) table l old
-    pub old-left : old′ ≡ rebaseOld (ofParts n N h rows lambda delta) table l old
+    pub outcome : o ≡ rebasing P table l old
+    pub rows-left : rows′ ≡ rebaseRows P table l old
+    pub lambda-left : lambda′ ≡ rebaseLambda P table l old
+    pub delta-left : delta′ ≡ rebaseDelta P table l old
+    pub old-left : old′ ≡ rebaseOld P table l old
 
   -- a refusal changes nothing of these
-  pub refused-answers : (r : Refusal) → refusalOf r ≡ rebaseLent (ofParts n N h rows lambda delta) table l old → Answers (record { verdict = refusalOf r; darts = N; height = h }) rows lambda delta old
+  pub refused-answers : (r : Refusal) → refusalOf r ≡ rebaseLent P table l old → Answers (record { verdict = refusalOf r; darts = N; height = h }) rows lambda delta old
   unfolding rebaseDarts rebaseHeight rebaseRows rebaseLambda rebaseDelta rebaseOld
   refused-answers r e =
-      let v = rebaseLent (ofParts n N h rows lambda delta) table l old in
+      let v = rebaseLent P table l old in
       record {
         outcome = λ i. record { verdict = e i; darts = refusal-keeps r v (newDarts N (each lambda) l) N e i; height = refusal-keeps r v (newHeight h l) h e i };
         rows-left = refusal-keeps r v _ rows e;
@@ -47,21 +49,21 @@ module _ (n N h : ℕ) (rows lambda delta table : List ℕ) (l : ℕ) (old : Lis
         old-left = refusal-keeps r v _ old e;
       }
 
-  module _ (e : rebaseLent (ofParts n N h rows lambda delta) table l old ≡ accepted) where
+  module _ (e : rebaseLent P table l old ≡ accepted) where
     abbrev Λ : ℕ → ℕ
     Λ = each lambda
 
     abbrev T : List ℕ
     T = levelTable (entry N rows) n N h Λ (each delta) l
 
-    pub lent : Lent (ofParts n N h rows lambda delta) table
-    lent = check-passed (ofParts n N h rows lambda delta) table (passed n N h rows lambda delta table l old e .checked) .0
+    pub lent : Lent P table
+    lent = check-passed P table (passed P table l old e .checked) .0
 
     -- what the kernels below the level ask
-    pub reached : Reached n N h rows lambda delta l
+    pub reached : Reached P l
     reached =
-        let p = passed n N h rows lambda delta table l old e in
-        let c = check-passed (ofParts n N h rows lambda delta) table (p .checked) in
+        let p = passed P table l old e in
+        let c = check-passed P table (p .checked) in
         record { base = c .1; climbed = c .2; low = p .low }
 
     -- an entry of a survivor is that of the level
@@ -70,9 +72,9 @@ module _ (n N h : ℕ) (rows lambda delta table : List ℕ) (l : ℕ) (old : Lis
 
     pub level-inside : (i : ℕ) → i ≤ n → Inside Λ l N N (entry N T i)
     level-inside i li d ld q =
-        let p = passed n N h rows lambda delta table l old e in
+        let p = passed P table l old e in
         let o : On N Λ l d = (ld, ltb-false (Λ d) l (not-true (gone Λ l d) q)) in
-        rw (level-entry i d li ld q) (level-valid (entry N rows) n N h Λ (each delta) (accepted-pyramid (ofParts n N h rows lambda delta) table (p .checked)) l (p .low) .inside i d li o .0)
+        rw (level-entry i d li ld q) (level-valid (entry N rows) n N h Λ (each delta) (accepted-pyramid P table (p .checked)) l (p .low) .inside i d li o .0)
 
     pub level-long : length T ≡ suc n * N
     level-long = length-explicit (level (entry N rows) n N (marks h Λ (each delta)) l) n N (survives Λ l)

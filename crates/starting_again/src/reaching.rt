@@ -5,11 +5,7 @@ use answers::Level;
 use answers::ROOM;
 use kernels::HEADS;
 use kernels::Kernel;
-ghost use mathlib.Core.Path.{_≡_};
-ghost use Prim.Native.Nat.{ℕ};
-ghost use Rattle.maps.specs.Table.{entry, each};
-ghost use Rattle.maps.specs.Folded.{levelTable};
-ghost use Rattle.starting_again.specs.Reaching.{Reached, HasLevel};
+ghost use Rattle.starting_again.specs.Reaching.{HasLevel, HoldsLevel};
 
 // Kernels 0 to level−1, in rising order. They are accepted, so none is tested again.
 pub(crate) fn climb(
@@ -21,8 +17,7 @@ pub(crate) fn climb(
     rows: &mut [u16],
 )
     requires { ⌜ HasLevel (n .0) darts (now rows) (now lambda) (now delta) (level .0) ⌝ }
-    ensures { λ _. ⌜ ((h : ℕ) → Reached (n .0) darts h (now (rows .entry)) (now (lambda .entry)) (now (delta .entry)) (level .0)
-        → now (rows .exit) ≡ levelTable (entry darts (now (rows .entry))) (n .0) darts h (each (now (lambda .entry))) (each (now (delta .entry))) (level .0)) ⌝ }
+    ensures { λ _. ⌜ HoldsLevel (n .0) darts (now (rows .entry)) (now (lambda .entry)) (now (delta .entry)) (level .0) (now (rows .exit)) ⌝ }
 {
     let mut head = [ABSENT; HEADS];
     let mut next = [0u16; ROOM];

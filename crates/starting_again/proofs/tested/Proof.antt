@@ -55,15 +55,15 @@ many : (c : tie.After-survivors-on) → let a = asked (high (c .before)) .args i
 many c = let a = asked (high (c .before)) .args in c .survivors-on .ensures ∙ ap (λ (m : ℕ). newDarts m (each (now (a .lambda))) (a .at .level .0)) (long (high (c .before)) .0)
 
 returns : tie.Need-returns
-returns c = let k : tie.After-lent = c .before .before .before in sizes-refused _ _ _ _ _ _ _ _ _ (c .before .r .given .0 .0) (told (sized k) (c .before .r .given .1))
+returns c = let k : tie.After-lent = c .before .before .before in sizes-refused _ _ _ _ (c .before .r .given .0 .0) (told (sized k) (c .before .r .given .1))
 
 returns-2 : tie.Need-returns-2
 returns-2 c =
     let k : tie.After-check = c .before .before .before .before .before in
-    check-refused _ _ _ _ _ _ _ _ _ (fits (first k)) (k .check .ensures .1) (c .before .r2 .given .0 .0) (told (k .check .ensures .0) (c .before .r2 .given .1))
+    check-refused _ _ _ _ (fits (first k)) (k .check .ensures .1) (c .before .r2 .given .0 .0) (told (k .check .ensures .0) (c .before .r2 .given .1))
 
 returns-3 : tie.Need-returns-3
-returns-3 c = let e : tie.After-enum-told2 = c .before .before .before in no-level _ _ _ _ _ _ _ _ _ (fits (first (check e))) (check e .check .ensures .1) (checked e) (c .if1 .taken)
+returns-3 c = let e : tie.After-enum-told2 = c .before .before .before in no-level _ _ _ _ (fits (first (check e))) (check e .check .ensures .1) (checked e) (c .if1 .taken)
 
 survivors-on-requires : tie.Need-survivors-on-requires
 survivors-on-requires c κs = omega (arith, long (high c))
@@ -71,12 +71,12 @@ survivors-on-requires c κs = omega (arith, long (high c))
 returns-4 : tie.Need-returns-4
 returns-4 c =
     let e = high (c .before .before) in
-    no-dart _ _ _ _ _ _ _ _ _ (fits (first (check e))) (check e .check .ensures .1) (checked e) (c .before .before .if1 .left) (sym (many (c .before)) ∙ c .if2 .taken)
+    no-dart _ _ _ _ (fits (first (check e))) (check e .check .ensures .1) (checked e) (c .before .before .if1 .left) (sym (many (c .before)) ∙ c .if2 .taken)
 
 returns-5 : tie.Need-returns-5
 returns-5 c =
     let e = high (c .before .before) in
-    all-passed _ _ _ _ _ _ _ _ _ (fits (first (check e))) (check e .check .ensures .1) (checked e) (c .before .before .if1 .left) (λ z. c .if2 .left (many (c .before) ∙ z))
+    all-passed _ _ _ _ (fits (first (check e))) (check e .check .ensures .1) (checked e) (c .before .before .if1 .left) (λ z. c .if2 .left (many (c .before) ∙ z))
 
 pub tested-spec : {M : Type 1} → statement M
 tested-spec =

@@ -13,7 +13,7 @@ use Rattle.starting_again.proofs.reaching.climb.Statement.{statement}
 use Rattle.starting_again.proofs.reaching.climb.Tie as tie
 
 abbrev Inv-loop : tie.InvT-loop
-Inv-loop n darts lambda delta rows₀ head next top l₀ rows l = (l ≤ top) × ((h : ℕ) → Reached (n .0) darts h rows₀ lambda delta top → Climbed (ofParts (n .0) darts h rows₀ lambda delta) l head next rows)
+Inv-loop n darts lambda delta rows₀ head next top l₀ rows l = (l ≤ top) × ((h : ℕ) → Reached (ofParts (n .0) darts h rows₀ lambda delta) top → Climbed (ofParts (n .0) darts h rows₀ lambda delta) l head next rows)
 
 abbrev μ-loop : tie.MeasureT-loop
 μ-loop n darts lambda delta rows₀ head next top l₀ rows l = top - l
