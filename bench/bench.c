@@ -39,7 +39,7 @@ struct implementation {
 static const struct implementation implementations[] = {
     {"library", JOBS(zg_, zg_read_by_levels)},
     {"c", JOBS(plain_, plain_read_by_levels)},
-    {"skipping", JOBS(plain_, plain_read_by_levels_skipping)},
+    {"stepwise", JOBS(plain_, plain_read_level_by_level)},
 };
 
 /* All that is lent. It is written once before anything is counted, so no page is touched for the first time then. */
@@ -325,7 +325,7 @@ int main(int argc, char **argv)
     const struct implementation *by = argc == 5 ? implementation_named(argv[1]) : NULL;
     const struct job *job = argc == 5 ? job_named(argv[2]) : NULL;
     if (!by || !job) {
-        fprintf(stderr, "bench library|c|skipping JOB MAP REPEAT\n");
+        fprintf(stderr, "bench library|c|stepwise JOB MAP REPEAT\n");
         return 2;
     }
     set_up(argv[3]);

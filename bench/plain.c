@@ -1,8 +1,10 @@
-/* The jobs in plain C, written for speed: no intrinsics, no check beyond those of docs/SCOPE.md.
+/* The jobs in plain C, written for speed by whatever way is fastest: no intrinsics, no check beyond those of
+ * docs/SCOPE.md.
  *
- * What is done for speed: numbers 5 (of a base) and 8 are first tested without a branch for each entry, which the
- * compiler turns into vector code, and the place is sought only if there is one; a pyramid's darts are sorted by kernel
- * once, so that a level costs what its kernel has; a removal starts from the kernel's darts, in place. */
+ * What is done for speed: a test says only whether all is well, over many entries at once, and the place is sought only
+ * if it isn't; what runs over the rows is compiled for each n; a pyramid's darts are listed by kernel and mark once, so
+ * that a level costs what its kernel has and all darts of a list use the same rows; a removal starts from the kernel's
+ * darts, in place, and the entries of all darts gone are cleared once, at the end; every job climbs once. */
 #include "plain.h"
 
 #include <stdbool.h>
@@ -10,6 +12,25 @@
 
 #define RESULT(type, ...) ((type){__VA_ARGS__})
 #define UNLIKELY(x) __builtin_expect(x, 0)
+
+/* A function of n that is compiled for each n, so that its loops over rows are none; WITH_N calls it. */
+#define FOR_EACH_N static inline __attribute__((always_inline))
+#define WITH_N(n, f, ...) \
+    ((n) == 1 ? f(1, __VA_ARGS__) : (n) == 2 ? f(2, __VA_ARGS__) : (n) == 3 ? f(3, __VA_ARGS__) : f(4, __VA_ARGS__))
+
+/* As memcpy, of a row at most: for so few bytes gcc puts 'rep movs', which takes the fewest instructions. */
+__attribute__((noinline)) static void copy(void *to, const void *from, size_t len)
+{
+    if (len > 2 * ZG_MOST_DARTS)
+        __builtin_unreachable();
+    memcpy(to, from, len);
+}
+
+static void copy_rows(unsigned n, unsigned darts, uint16_t *to, const uint16_t *from)
+{
+    for (unsigned i = 0; i <= n; i++)
+        copy(to + i * darts, from + i * darts, darts * sizeof *to);
+}
 
 /* Number 1, 2 or 3, or 0. */
 static unsigned bad_size(unsigned n, unsigned darts, unsigned h)
@@ -43,10 +64,9 @@ static bool all_below(const uint16_t *rows, size_t len, unsigned darts)
     return most < darts;
 }
 
-static zg_refusal check_rows(unsigned n, unsigned darts, const uint16_t *rows)
+/* The first place of number 6 or 7; there is one. */
+static zg_refusal find_bad_rows(unsigned n, unsigned darts, const uint16_t *rows)
 {
-    if (!all_below(rows, (size_t)(n + 1) * darts, darts))
-        return find_bad_neighbour(n, darts, rows);
     for (unsigned i = 0; i <= n; i++) {
         const uint16_t *a = rows + i * darts;
         for (unsigned d = 0; d < darts; d++)
@@ -60,6 +80,43 @@ static zg_refusal check_rows(unsigned n, unsigned darts, const uint16_t *rows)
                 if (b[a[d]] != a[b[d]])
                     return RESULT(zg_refusal, 7, 0, i, d);
         }
+    return RESULT(zg_refusal, 0);
+}
+
+/* Whether a dart has neither number 6 nor 7. Its neighbours are read once, for all tests of it. */
+FOR_EACH_N bool dart_fits(unsigned n, const uint16_t *const *row, size_t at)
+{
+    uint16_t d = (uint16_t)at, to[5];
+    for (unsigned i = 0; i <= n; i++) {
+        to[i] = row[i][at];
+        if (row[i][to[i]] != d)
+            return false;
+    }
+    for (unsigned j = 2; j <= n; j++)
+        for (unsigned i = 0; i + 2 <= j; i++)
+            if (row[j][to[i]] != row[i][to[j]])
+                return false;
+    return true;
+}
+
+FOR_EACH_N bool rows_fit(unsigned n, size_t darts, const uint16_t *rows)
+{
+    const uint16_t *row[5];
+    for (unsigned i = 0; i <= n; i++)
+        row[i] = rows + i * darts;
+#pragma GCC unroll 4
+    for (size_t d = 0; d < darts; d++)
+        if (!dart_fits(n, row, d))
+            return false;
+    return true;
+}
+
+static zg_refusal check_rows(unsigned n, unsigned darts, const uint16_t *rows)
+{
+    if (!all_below(rows, (size_t)(n + 1) * darts, darts))
+        return find_bad_neighbour(n, darts, rows);
+    if (!WITH_N(n, rows_fit, darts, rows))
+        return find_bad_rows(n, darts, rows);
     return RESULT(zg_refusal, 0);
 }
 
@@ -78,16 +135,20 @@ static bool marks_fit(unsigned n, unsigned h, uint8_t lambda, uint8_t delta)
     return (lambda < h && is_mark(n, delta)) || (lambda == h && delta == n);
 }
 
-/* The first dart with marks that don't fit, or darts; again the place is sought only if there is one. */
+/* The first dart with marks that don't fit, or darts; again the place is sought only if there is one. A mark is one
+ * exactly if it or what is left of it after taking off 9 is below n; where Lambda is h, all of Delta is compared, and one
+ * less than n is below n. */
 static unsigned first_unfit(unsigned n, unsigned darts, unsigned h, const uint8_t *lambda, const uint8_t *delta)
 {
-    uint8_t top = (uint8_t)h, dimension = (uint8_t)n, bad = 0;
+    uint8_t top = (uint8_t)h, dimension = (uint8_t)n, highest = 0, most = 0, differ = 0;
     for (unsigned d = 0; d < darts; d++) {
-        uint8_t contracted = (uint8_t)(delta[d] - ZG_CONTRACT - 1) < dimension;
-        uint8_t removed = (uint8_t)((lambda[d] < top) & ((delta[d] < dimension) | contracted));
-        uint8_t stays = (uint8_t)((lambda[d] == top) & (delta[d] == dimension));
-        bad |= (uint8_t)((removed | stays) ^ 1);
+        uint8_t less = (uint8_t)(delta[d] - ZG_CONTRACT - 1), row = delta[d] < less ? delta[d] : less;
+        uint8_t stays = lambda[d] == top ? 255 : 0, asked = (uint8_t)(row + stays);
+        differ |= (uint8_t)((delta[d] ^ dimension) & stays);
+        most = asked > most ? asked : most;
+        highest = lambda[d] > highest ? lambda[d] : highest;
     }
+    bool bad = highest > top || most >= dimension || differ;
     unsigned d = bad ? 0 : darts;
     while (d < darts && marks_fit(n, h, lambda[d], delta[d]))
         d++;
@@ -96,127 +157,177 @@ static unsigned first_unfit(unsigned n, unsigned darts, unsigned h, const uint8_
 
 /* ---------------------------------------------------------------- kernels */
 
-/* Lambda and Delta of a dart in one number: equal for two darts of one kernel and mark. */
-static void join_marks(unsigned darts, const uint8_t *lambda, const uint8_t *delta, uint16_t *mark)
-{
-    for (unsigned d = 0; d < darts; d++)
-        mark[d] = (uint16_t)(lambda[d] << 8 | delta[d]);
-}
+/* The kind of a dart is its kernel and its mark in one number: 16 times Lambda, and Delta, which is below 16. */
+enum { MARKS = 16, KINDS = 33 * MARKS };
 
-/* The darts by kernel, rising in each: kernel k holds order[start[k]] to order[start[k + 1] - 1]. */
-static void sort_by_kernel(unsigned darts, const uint16_t *mark, uint16_t *order, unsigned *start)
-{
-    unsigned next[35] = {0};
-    for (unsigned d = 0; d < darts; d++)
-        next[(mark[d] >> 8) + 1]++;
-    for (unsigned k = 1; k < 35; k++)
-        next[k] += next[k - 1];
-    memcpy(start, next, sizeof next);
-    for (unsigned d = 0; d < darts; d++)
-        order[next[mark[d] >> 8]++] = (uint16_t)d;
-}
+static unsigned least_kind(unsigned level) { return level * MARKS; }
 
-/* Where the rows of a mark begin: that of its dimension, the other that a walk passes by, and the one that must commute
- * with it, ZG_MOST_ENTRIES if there is none. */
-struct way {
-    unsigned own, other, beyond;
+/* Kinds of one kernel differ in their mark alone. */
+static bool same_kernel(unsigned kind, unsigned other) { return (kind ^ other) < MARKS; }
+
+/* The kind of each dart, and the darts of each kind, rising: the first, and which comes after each; ZG_ABSENT ends. A
+ * list takes one pass, a sorted row would take two. */
+struct kinds {
+    uint16_t of[ZG_MOST_DARTS], next[ZG_MOST_DARTS], first[KINDS];
 };
-enum { WAYS = 16 }; /* by the low bits of a mark */
 
-static void list_ways(unsigned n, unsigned darts, struct way *ways)
+static void set_kinds(unsigned darts, const uint8_t *restrict lambda, const uint8_t *restrict delta, uint16_t *restrict of)
 {
-    for (unsigned k = 0; k < n; k++) {
-        unsigned beyond = k + 2 <= n ? (k + 2) * darts : ZG_MOST_ENTRIES;
-        ways[k] = (struct way){k * darts, (k + 1) * darts, beyond};
-        beyond = k >= 1 ? (k - 1) * darts : ZG_MOST_ENTRIES;
-        ways[ZG_CONTRACT + 1 + k] = (struct way){(k + 1) * darts, k * darts, beyond};
+    for (unsigned d = 0; d < darts; d++)
+        of[d] = (uint16_t)(lambda[d] * MARKS + delta[d]);
+}
+
+static void list_kinds(unsigned darts, struct kinds *kinds)
+{
+    memset(kinds->first, 255, sizeof kinds->first);
+#pragma GCC unroll 4
+    for (size_t d = darts; d-- > 0;) {
+        size_t kind = kinds->of[d];
+        kinds->next[d] = kinds->first[kind];
+        kinds->first[kind] = (uint16_t)d;
     }
 }
 
-static zg_refusal check_kernel(unsigned n, unsigned darts, unsigned level, const uint16_t *table, const uint16_t *mark,
-                               const uint16_t *kernel, unsigned size, const struct way *ways)
+/* The rows of a mark: that of its dimension, then the other that a walk passes by, then the one that must commute with
+ * this one, if there is one, then the rest. */
+struct ways {
+    unsigned row[5];
+    bool beyond;
+};
+
+static struct ways ways_of(unsigned n, unsigned mark)
 {
-    for (unsigned k = 0; k < size; k++) {
-        unsigned d = kernel[k];
-        uint16_t own = mark[d];
-        const uint16_t *to = table + d;
-        for (unsigned j = 0; j <= n; j++, to += darts)
-            if (UNLIKELY(mark[*to] != own) && j != dimension_of(own))
-                return RESULT(zg_refusal, 9, level, j, d);
+    int own = (int)dimension_of(mark), step = contracts(mark) ? -1 : 1, beyond = own + 2 * step;
+    struct ways w = {{(unsigned)own, (unsigned)(own + step)}, beyond >= 0 && beyond <= (int)n};
+    unsigned known = 2;
+    if (w.beyond)
+        w.row[known++] = (unsigned)beyond;
+    for (int i = 0; i <= (int)n; i++)
+        if (i != own && i != own + step && i != beyond)
+            w.row[known++] = (unsigned)i;
+    return w;
+}
+
+/* FOR_KINDS: the kinds of a kernel that a dart has. */
+#define FOR_KINDS(n, level, kinds, kind) \
+    for (unsigned kind = least_kind(level); kind < least_kind(level) + ZG_CONTRACT + 1 + (n); kind++) \
+        if ((kinds)->first[kind] != ZG_ABSENT)
+
+/* Whether the darts of a kind have neither number 9 nor 10. */
+FOR_EACH_N bool kind_fits(unsigned n, size_t darts, const uint16_t *table, const struct kinds *kinds, uint16_t kind,
+                          bool beyond, const struct ways *w)
+{
+    const uint16_t *row[5] = {0};
+    for (unsigned j = 1; j <= n; j++)
+        row[j] = table + w->row[j] * darts;
+    for (size_t d = kinds->first[kind]; d != ZG_ABSENT; d = kinds->next[d]) {
+        size_t to[5] = {0};
+        for (unsigned j = 1; j <= n; j++) {
+            to[j] = row[j][d];
+            if (UNLIKELY(kinds->of[to[j]] != kind))
+                return false;
+        }
+        if (beyond && UNLIKELY(row[2][to[1]] != row[1][to[2]]))
+            return false;
     }
-    for (unsigned k = 0; k < size; k++) {
-        unsigned d = kernel[k];
-        const struct way *w = ways + mark[d] % WAYS;
-        if (w->beyond == ZG_MOST_ENTRIES)
+    return true;
+}
+
+FOR_EACH_N bool kernel_fits_n(unsigned n, size_t darts, unsigned level, const uint16_t *table, const struct kinds *kinds)
+{
+    FOR_KINDS(n, level, kinds, kind)
+    {
+        struct ways w = ways_of(n, kind % MARKS);
+        if (!(w.beyond ? kind_fits(n, darts, table, kinds, (uint16_t)kind, true, &w)
+                       : kind_fits(n, darts, table, kinds, (uint16_t)kind, false, &w)))
+            return false;
+    }
+    return true;
+}
+
+static bool kernel_fits(unsigned n, size_t darts, unsigned level, const uint16_t *table, const struct kinds *kinds)
+{
+    return WITH_N(n, kernel_fits_n, darts, level, table, kinds);
+}
+
+/* The first place of number 9 or 10, in the table of a level; there is one. */
+static zg_refusal find_unfit(unsigned n, unsigned darts, unsigned level, const uint16_t *table, const uint16_t *of)
+{
+    for (unsigned d = 0; d < darts; d++)
+        for (unsigned j = 0; j <= n && of[d] / MARKS == level; j++)
+            if (j != dimension_of(of[d]) && of[table[j * darts + d]] != of[d])
+                return RESULT(zg_refusal, 9, level, j, d);
+    for (unsigned d = 0; d < darts; d++) {
+        if (of[d] / MARKS != level)
             continue;
-        const uint16_t *a = table + w->other, *b = table + w->beyond;
+        struct ways w = ways_of(n, of[d] % MARKS);
+        if (!w.beyond)
+            continue;
+        const uint16_t *a = table + w.row[1] * darts, *b = table + w.row[2] * darts;
         if (b[a[d]] != a[b[d]])
-            return RESULT(zg_refusal, 10, level, w->other / darts, d);
+            return RESULT(zg_refusal, 10, level, w.row[1], d);
     }
     return RESULT(zg_refusal, 0);
 }
 
-/* Cells are whole, so the row of its own dimension leads from a dart of a kernel to a survivor or to a dart of the
- * kernel with the same dimension, removed or contracted. Joint marks of one kernel differ in their low byte alone. */
-static bool same_kernel(unsigned mark, unsigned other) { return (mark ^ other) < 256; }
-
-/* Where the walk goes on from a dart of the kernel whose kind is another than that of the darts passed. */
-__attribute__((noinline)) static unsigned walk_on(const uint16_t *table, const uint16_t *mark, const struct way *ways,
-                                                  unsigned met)
+/* Where the walk goes on from a dart of the kernel whose kind is another than that of the darts passed: it has the same
+ * dimension, since cells are whole. */
+__attribute__((noinline)) static unsigned walk_on(size_t darts, const uint16_t *table, const uint16_t *of, unsigned met)
 {
-    unsigned own = mark[met];
-    const uint16_t *a = table + ways[own % WAYS].own;
-    for (unsigned kind = own; same_kernel(kind, own); kind = mark[met]) {
-        const uint16_t *b = table + ways[kind % WAYS].other;
+    unsigned own = of[met];
+    const uint16_t *a = table + dimension_of(own) * darts;
+    for (unsigned kind = own; same_kernel(kind, own); kind = of[met]) {
+        const uint16_t *b = contracts(kind) ? a - darts : a + darts;
         do
             met = a[b[met]];
-        while (mark[met] == kind);
+        while (of[met] == kind);
     }
     return met;
 }
 
 /* Walks run over entries of the kernel's darts alone, so the survivors' entries can be set in place, at both ends of a
- * link at once: a survivor that no longer leads back has its link already. The entries of the kernel's darts go when all
- * walks have ended. */
-static void remove_kernel(unsigned n, unsigned darts, uint16_t *table, const uint16_t *mark, const uint16_t *kernel,
-                          unsigned size, const struct way *ways)
+ * link at once: a survivor that no longer leads back has its link already. */
+static void remove_kernel(unsigned n, size_t darts, unsigned level, uint16_t *table, const struct kinds *kinds)
 {
-    for (unsigned k = 0; k < size; k++) {
-        unsigned met = kernel[k], own = mark[met];
-        const struct way *w = ways + own % WAYS;
-        uint16_t *a = table + w->own;
-        unsigned survivor = a[met];
-        if (same_kernel(mark[survivor], own) || a[survivor] != met)
-            continue;
-        const uint16_t *b = table + w->other;
-        do
-            met = a[b[met]];
-        while (mark[met] == own);
-        if (UNLIKELY(same_kernel(mark[met], own)))
-            met = walk_on(table, mark, ways, met);
-        a[survivor] = (uint16_t)met;
-        a[met] = (uint16_t)survivor;
+    FOR_KINDS(n, level, kinds, kind)
+    {
+        uint16_t *a = table + dimension_of(kind) * darts;
+        const uint16_t *b = contracts(kind) ? a - darts : a + darts;
+        for (size_t d = kinds->first[kind]; d != ZG_ABSENT; d = kinds->next[d]) {
+            size_t survivor = a[d], met = d;
+            if (same_kernel(kinds->of[survivor], kind) || a[survivor] != (uint16_t)d)
+                continue;
+            do
+                met = a[(size_t)b[met]];
+            while (kinds->of[met] == (uint16_t)kind);
+            if (UNLIKELY(same_kernel(kinds->of[met], kind)))
+                met = walk_on(darts, table, kinds->of, (unsigned)met);
+            a[survivor] = (uint16_t)met;
+            a[met] = (uint16_t)survivor;
+        }
     }
-    for (unsigned i = 0; i <= n; i++)
-        for (unsigned k = 0; k < size; k++)
-            table[i * darts + kernel[k]] = ZG_ABSENT;
 }
 
-/* Takes kernels 0 to h-1 in the table, which holds the base. */
-static zg_refusal climb(unsigned n, unsigned darts, unsigned h, const uint16_t *mark, uint16_t *table)
+/* Clears the entries of the darts gone below a level. No walk and no test reads them, so once is enough. */
+static void clear_gone(unsigned n, unsigned darts, unsigned level, const uint16_t *restrict of, uint16_t *restrict table)
 {
-    uint16_t order[ZG_MOST_DARTS];
-    unsigned start[35];
-    struct way ways[WAYS];
-    list_ways(n, darts, ways);
-    sort_by_kernel(darts, mark, order, start);
-    for (unsigned k = 0; k < h; k++) {
-        const uint16_t *kernel = order + start[k];
-        unsigned size = start[k + 1] - start[k];
-        zg_refusal r = check_kernel(n, darts, k, table, mark, kernel, size, ways);
-        if (r.number)
-            return r;
-        remove_kernel(n, darts, table, mark, kernel, size, ways);
+    int16_t least = (int16_t)least_kind(level);
+    for (unsigned i = 0; i <= n; i++, table += darts)
+        for (unsigned d = 0; d < darts; d++)
+            table[d] |= (int16_t)of[d] < least ? ZG_ABSENT : 0;
+}
+
+/* Takes kernels from level to end-1 in the table, which holds level, but for the entries of darts gone, which are
+ * cleared only in a refusal. */
+static zg_refusal climb(unsigned n, unsigned darts, unsigned level, unsigned end, const struct kinds *kinds,
+                        uint16_t *table)
+{
+    for (; level < end; level++) {
+        if (UNLIKELY(!kernel_fits(n, darts, level, table, kinds))) {
+            clear_gone(n, darts, level, kinds->of, table);
+            return find_unfit(n, darts, level, table, kinds->of);
+        }
+        remove_kernel(n, darts, level, table, kinds);
     }
     return RESULT(zg_refusal, 0);
 }
@@ -233,9 +344,10 @@ zg_refusal plain_check_base(uint8_t n, uint16_t darts, const uint16_t *rows, siz
     return check_rows(n, darts, rows);
 }
 
-zg_refusal plain_check(uint8_t n, uint16_t darts, uint8_t h, const uint16_t *rows, size_t rows_len,
-                       const uint8_t *lambda, size_t lambda_len, const uint8_t *delta, size_t delta_len,
-                       uint16_t *table, size_t table_len)
+/* Numbers 1 to 8. */
+static zg_refusal check_folded(unsigned n, unsigned darts, unsigned h, const uint16_t *rows, size_t rows_len,
+                               const uint8_t *lambda, size_t lambda_len, const uint8_t *delta, size_t delta_len,
+                               size_t table_len)
 {
     unsigned bad = bad_size(n, darts, h);
     if (bad)
@@ -249,26 +361,57 @@ zg_refusal plain_check(uint8_t n, uint16_t darts, uint8_t h, const uint16_t *row
     unsigned unfit = first_unfit(n, darts, h, lambda, delta);
     if (unfit < darts)
         return RESULT(zg_refusal, 8, 0, 0, unfit);
-    uint16_t mark[ZG_MOST_DARTS];
-    memcpy(table, rows, len * sizeof *rows);
-    join_marks(darts, lambda, delta, mark);
-    return climb(n, darts, h, mark, table);
+    return r;
 }
 
+/* The base in the table, and the kinds of its darts. */
+static void start_climb(unsigned n, unsigned darts, const uint16_t *rows, const uint8_t *lambda, const uint8_t *delta,
+                        struct kinds *kinds, uint16_t *table)
+{
+    copy_rows(n, darts, table, rows);
+    set_kinds(darts, lambda, delta, kinds->of);
+    list_kinds(darts, kinds);
+}
+
+zg_refusal plain_check(uint8_t n, uint16_t darts, uint8_t h, const uint16_t *rows, size_t rows_len,
+                       const uint8_t *lambda, size_t lambda_len, const uint8_t *delta, size_t delta_len,
+                       uint16_t *table, size_t table_len)
+{
+    struct kinds kinds;
+    zg_refusal r = check_folded(n, darts, h, rows, rows_len, lambda, lambda_len, delta, delta_len, table_len);
+    if (r.number)
+        return r;
+    start_climb(n, darts, rows, lambda, delta, &kinds, table);
+    r = climb(n, darts, 0, h, &kinds, table);
+    if (!r.number)
+        clear_gone(n, darts, h, kinds.of, table);
+    return r;
+}
+
+/* The first dart whose entry of a mark row isn't allowed, or darts. */
 static unsigned first_bad_mark(unsigned n, unsigned darts, unsigned h, const uint8_t *lambda, const uint8_t *marks)
 {
-    unsigned d = 0;
+    uint8_t top = (uint8_t)h, dimension = (uint8_t)n, bad = 0;
+    for (unsigned d = 0; d < darts; d++) {
+        uint8_t contracted = (uint8_t)(marks[d] - ZG_CONTRACT - 1) < dimension;
+        uint8_t removed = (uint8_t)((lambda[d] == top) & ((marks[d] < dimension) | contracted));
+        bad |= (uint8_t)((removed | (marks[d] == ZG_STAY)) ^ 1);
+    }
+    unsigned d = bad ? 0 : darts;
     while (d < darts && (marks[d] == ZG_STAY || (is_mark(n, marks[d]) && lambda[d] == h)))
         d++;
     return d;
 }
 
-static void raise_marks(unsigned darts, unsigned h, const uint8_t *marks, uint8_t *lambda, uint8_t *delta)
+/* Lambda and Delta with the mark row as kernel h. */
+static void raise_marks(unsigned darts, unsigned h, const uint8_t *restrict marks, uint8_t *restrict lambda,
+                        uint8_t *restrict delta)
 {
+    uint8_t top = (uint8_t)h;
     for (unsigned d = 0; d < darts; d++) {
         bool stays = marks[d] == ZG_STAY;
         delta[d] = stays ? delta[d] : marks[d];
-        lambda[d] = (uint8_t)(lambda[d] + (stays & (lambda[d] == h)));
+        lambda[d] = (uint8_t)(lambda[d] + (stays & (lambda[d] == top)));
     }
 }
 
@@ -284,27 +427,24 @@ zg_height plain_add(uint8_t n, uint16_t darts, uint8_t h, const uint16_t *rows, 
         return RESULT(zg_height, {4}, h);
     if (h == 32)
         return RESULT(zg_height, {20}, h);
-    zg_refusal r = check_rows(n, darts, rows);
+    zg_refusal r = check_folded(n, darts, h, rows, len, lambda, darts, delta, darts, len);
     if (r.number)
         return RESULT(zg_height, r, h);
-    unsigned unfit = first_unfit(n, darts, h, lambda, delta);
-    if (unfit < darts)
-        return RESULT(zg_height, {8, 0, 0, unfit}, h);
     unsigned wrong = first_bad_mark(n, darts, h, lambda, marks);
     if (wrong < darts)
         return RESULT(zg_height, {8, h, 0, wrong}, h);
     uint8_t new_lambda[ZG_MOST_DARTS], new_delta[ZG_MOST_DARTS];
-    uint16_t mark[ZG_MOST_DARTS];
-    memcpy(new_lambda, lambda, darts);
-    memcpy(new_delta, delta, darts);
+    struct kinds kinds;
+    copy(new_lambda, lambda, darts);
+    copy(new_delta, delta, darts);
     raise_marks(darts, h, marks, new_lambda, new_delta);
-    join_marks(darts, new_lambda, new_delta, mark);
-    memcpy(table, rows, len * sizeof *rows);
-    r = climb(n, darts, h + 1u, mark, table);
+    start_climb(n, darts, rows, new_lambda, new_delta, &kinds, table);
+    r = climb(n, darts, 0, h + 1u, &kinds, table);
     if (r.number)
         return RESULT(zg_height, r, h);
-    memcpy(lambda, new_lambda, darts);
-    memcpy(delta, new_delta, darts);
+    clear_gone(n, darts, h + 1u, kinds.of, table);
+    copy(lambda, new_lambda, darts);
+    copy(delta, new_delta, darts);
     return RESULT(zg_height, .height = (uint8_t)(h + 1));
 }
 
@@ -332,9 +472,9 @@ zg_refusal plain_marks_of(uint8_t n, uint16_t darts, uint8_t h, const uint8_t *l
 /* ---------------------------------------------------------------- readings */
 
 /* Number 1, 2, 3, 4, 11, 13, 12 or 8 before a walk, or 0. */
-static unsigned bad_question(unsigned n, unsigned darts, unsigned h, size_t rows_len, const uint8_t *lambda,
-                             size_t lambda_len, const uint8_t *delta, size_t delta_len, unsigned level,
-                             unsigned involution, unsigned dart)
+static inline __attribute__((always_inline)) unsigned
+bad_question(unsigned n, unsigned darts, unsigned h, size_t rows_len, const uint8_t *lambda, size_t lambda_len,
+             const uint8_t *delta, size_t delta_len, unsigned level, unsigned involution, unsigned dart)
 {
     unsigned bad = bad_size(n, darts, h);
     if (bad)
@@ -352,30 +492,35 @@ static unsigned bad_question(unsigned n, unsigned darts, unsigned h, size_t rows
     return lambda[dart] < level ? 12 : 0;
 }
 
-static zg_refusal refuse_question(unsigned number, unsigned level, unsigned involution, unsigned dart)
+__attribute__((noinline)) static zg_refusal refuse_question(unsigned number, unsigned level, unsigned involution, unsigned dart)
 {
     if (number <= 4)
         return RESULT(zg_refusal, number);
     return RESULT(zg_refusal, number, level, involution, dart);
 }
 
-zg_link plain_read(uint8_t n, uint16_t darts, uint8_t h, const uint16_t *rows, size_t rows_len,
-                   const uint8_t *lambda, size_t lambda_len, const uint8_t *delta, size_t delta_len, uint8_t level,
-                   uint8_t involution, uint16_t dart)
+/* Whether the first entry read answers the question: most do, so this comes first, and the walks are apart. */
+static inline __attribute__((always_inline)) bool answers(unsigned n, unsigned darts, unsigned h, const uint8_t *lambda,
+                                                          const uint8_t *delta, unsigned level, unsigned met)
 {
-    unsigned bad = bad_question(n, darts, h, rows_len, lambda, lambda_len, delta, delta_len, level, involution, dart);
-    if (bad)
-        return RESULT(zg_link, refuse_question(bad, level, involution, dart));
-    unsigned t = involution, at = dart, most = 1 + 2u * darts, since = 0;
+    return met < darts && lambda[met] >= level && marks_fit(n, h, lambda[met], delta[met]);
+}
+
+__attribute__((noinline)) static zg_link read_on(unsigned n, unsigned darts, unsigned h, const uint16_t *rows,
+                                                 const uint8_t *lambda, const uint8_t *delta, uint8_t level,
+                                                 uint8_t involution, uint16_t dart)
+{
+    unsigned t = involution, most = 1 + 2u * darts, since = 0;
+    size_t at = dart;
     const uint16_t *row = rows + t * darts;
     for (unsigned reads = 1;; reads++) {
         if (reads > most)
             return RESULT(zg_link, {15, level, involution, dart});
-        unsigned met = row[at];
+        size_t met = row[at];
         if (met >= darts)
-            return RESULT(zg_link, {5, level, t, at});
+            return RESULT(zg_link, {5, level, t, (uint16_t)at});
         if (!marks_fit(n, h, lambda[met], delta[met]))
-            return RESULT(zg_link, {8, level, t, met});
+            return RESULT(zg_link, {8, level, t, (uint16_t)met});
         if (lambda[met] >= level)
             return RESULT(zg_link, .count = reads, .neighbour = (uint16_t)met, .since = (uint8_t)since);
         if (since <= lambda[met])
@@ -388,9 +533,22 @@ zg_link plain_read(uint8_t n, uint16_t darts, uint8_t h, const uint16_t *rows, s
             t--;
             row -= darts;
         } else
-            return RESULT(zg_link, {14, level, t, met});
+            return RESULT(zg_link, {14, level, t, (uint16_t)met});
         at = met;
     }
+}
+
+zg_link plain_read(uint8_t n, uint16_t darts, uint8_t h, const uint16_t *rows, size_t rows_len,
+                   const uint8_t *lambda, size_t lambda_len, const uint8_t *delta, size_t delta_len, uint8_t level,
+                   uint8_t involution, uint16_t dart)
+{
+    unsigned bad = bad_question(n, darts, h, rows_len, lambda, lambda_len, delta, delta_len, level, involution, dart);
+    if (UNLIKELY(bad))
+        return RESULT(zg_link, refuse_question(bad, level, involution, dart));
+    unsigned met = rows[(size_t)involution * darts + dart];
+    if (answers(n, darts, h, lambda, delta, level, met))
+        return RESULT(zg_link, .count = 1, .neighbour = (uint16_t)met);
+    return read_on(n, darts, h, rows, lambda, delta, level, involution, dart);
 }
 
 /* What a reading by levels keeps in all its depths. */
@@ -449,99 +607,164 @@ static unsigned read_level(struct question *q, unsigned l, unsigned i, unsigned 
     return met;
 }
 
-/* The same: a dart with Lambda k is met unchanged on every level up to k, so the walk begins on level k + 1. */
-static unsigned read_level_skipping(struct question *q, unsigned l, unsigned i, unsigned from)
-{
-    unsigned met = read_base(q, i, from);
-    while (met != ZG_ABSENT && q->lambda[met] < l) {
-        unsigned k = q->lambda[met], mark = q->delta[met];
-        if (dimension_of(mark) != i)
-            return cannot_pass(q, met);
-        met = read_level_skipping(q, k, contracts(mark) ? i - 1 : i + 1, met);
-        if (met == ZG_ABSENT)
-            return ZG_ABSENT;
-        if (q->lambda[met] != k || q->delta[met] != mark)
-            return cannot_pass(q, met);
-        met = read_level_skipping(q, k, i, met);
-    }
-    return met;
-}
-
-typedef unsigned level_reader(struct question *, unsigned l, unsigned i, unsigned from);
-
-static zg_reading read_by(level_reader *reader, uint8_t n, uint16_t darts, uint8_t h, const uint16_t *rows,
-                          size_t rows_len, const uint8_t *lambda, size_t lambda_len, const uint8_t *delta,
-                          size_t delta_len, uint8_t level, uint8_t involution, uint16_t dart)
+zg_reading plain_read_level_by_level(uint8_t n, uint16_t darts, uint8_t h, const uint16_t *rows, size_t rows_len,
+                                     const uint8_t *lambda, size_t lambda_len, const uint8_t *delta, size_t delta_len,
+                                     uint8_t level, uint8_t involution, uint16_t dart)
 {
     unsigned bad = bad_question(n, darts, h, rows_len, lambda, lambda_len, delta, delta_len, level, involution, dart);
     if (bad)
         return RESULT(zg_reading, refuse_question(bad, level, involution, dart));
     struct question q = {rows, lambda, delta, n, darts, h, level, involution, dart, 0, 0, {{0}}};
-    unsigned met = reader(&q, level, involution, dart);
+    unsigned met = read_level(&q, level, involution, dart);
     if (met == ZG_ABSENT)
         return q.refused;
     return RESULT(zg_reading, .count = q.reads, .neighbour = (uint16_t)met);
+}
+
+/* A pass that has begun: from which level and row, and with which mark it must end. */
+struct begun {
+    uint8_t level, row, mark;
+};
+
+/* A dart with Lambda k is met unchanged on every level up to k, so what it is passed on is level k. There the other row
+ * is read, which is a reading like the first one, with fewer levels; what was begun waits, at most once for each level.
+ * After a pass the reading goes on where it was: on the levels from k up to its own the rules are the same. */
+__attribute__((noinline)) static zg_reading read_by_passes(unsigned n, unsigned darts, unsigned h, const uint16_t *rows,
+                                                           const uint8_t *lambda, const uint8_t *delta, uint8_t level,
+                                                           uint8_t involution, uint16_t dart)
+{
+    struct begun waiting[ZG_MOST_LEVELS + 1], *begun = waiting;
+    unsigned l = level, t = involution, most = 1 + 2u * darts;
+    size_t at = dart;
+    const uint16_t *row = rows + t * darts;
+    for (unsigned reads = 1;; reads++) {
+        if (reads > most)
+            return RESULT(zg_reading, {15, level, involution, dart});
+        size_t met = row[at];
+        if (met >= darts)
+            return RESULT(zg_reading, {5, level, t, (uint16_t)at});
+        unsigned lambda_met = lambda[met], mark = delta[met];
+        if (!marks_fit(n, h, (uint8_t)lambda_met, (uint8_t)mark))
+            return RESULT(zg_reading, {8, level, t, (uint16_t)met});
+        if (lambda_met < l) {
+            if (dimension_of(mark) != t)
+                return RESULT(zg_reading, {14, level, t, (uint16_t)met});
+            *begun++ = (struct begun){(uint8_t)l, (uint8_t)t, (uint8_t)mark};
+            l = lambda_met;
+            t = contracts(mark) ? t - 1 : t + 1;
+            row = contracts(mark) ? row - darts : row + darts;
+        } else if (begun == waiting)
+            return RESULT(zg_reading, .count = reads, .neighbour = (uint16_t)met);
+        else {
+            begun--;
+            if (lambda_met != l || mark != begun->mark)
+                return RESULT(zg_reading, {14, level, t, (uint16_t)met});
+            l = begun->level;
+            row = begun->row < t ? row - darts : row + darts;
+            t = begun->row;
+        }
+        at = met;
+    }
 }
 
 zg_reading plain_read_by_levels(uint8_t n, uint16_t darts, uint8_t h, const uint16_t *rows, size_t rows_len,
                                 const uint8_t *lambda, size_t lambda_len, const uint8_t *delta, size_t delta_len,
                                 uint8_t level, uint8_t involution, uint16_t dart)
 {
-    return read_by(read_level, n, darts, h, rows, rows_len, lambda, lambda_len, delta, delta_len, level, involution,
-                   dart);
-}
-
-zg_reading plain_read_by_levels_skipping(uint8_t n, uint16_t darts, uint8_t h, const uint16_t *rows, size_t rows_len,
-                                         const uint8_t *lambda, size_t lambda_len, const uint8_t *delta,
-                                         size_t delta_len, uint8_t level, uint8_t involution, uint16_t dart)
-{
-    return read_by(read_level_skipping, n, darts, h, rows, rows_len, lambda, lambda_len, delta, delta_len, level,
-                   involution, dart);
+    unsigned bad = bad_question(n, darts, h, rows_len, lambda, lambda_len, delta, delta_len, level, involution, dart);
+    if (UNLIKELY(bad))
+        return RESULT(zg_reading, refuse_question(bad, level, involution, dart));
+    unsigned met = rows[(size_t)involution * darts + dart];
+    if (answers(n, darts, h, lambda, delta, level, met))
+        return RESULT(zg_reading, .count = 1, .neighbour = (uint16_t)met);
+    return read_by_passes(n, darts, h, rows, lambda, delta, level, involution, dart);
 }
 
 /* ---------------------------------------------------------------- whole levels */
 
-/* Apart from the tests before it, so that its loops have the registers to themselves. */
-__attribute__((noinline)) static zg_unfolding unfold_rows(unsigned n, unsigned darts, const uint16_t *rows,
-                                                          const uint8_t *lambda, const uint8_t *delta, uint8_t level,
-                                                          uint16_t *table)
+/* The darts of a level, rising. */
+struct present {
+    uint16_t dart[ZG_MOST_DARTS];
+    unsigned size;
+};
+
+/* What an unfolding reads of a dart: 256 times Lambda and 1, and the lower of the two rows between which it is passed. */
+static void set_passes(unsigned darts, const uint8_t *restrict lambda, const uint8_t *restrict delta,
+                       uint16_t *restrict passes)
 {
-    unsigned total = 0, since = 0;
-    for (unsigned i = 0; i <= n; i++, rows += darts, table += darts)
-        for (unsigned d = 0; d < darts; d++) {
-            unsigned met = ZG_ABSENT;
-            if (lambda[d] >= level) {
-                met = rows[d];
-                total++;
-                if (met >= darts)
-                    return RESULT(zg_unfolding, {5, level, i, d});
-                if (lambda[met] < level) {
-                    const uint16_t *row = rows;
-                    unsigned t = i, left = 2 * darts;
-                    do {
-                        unsigned from = met, mark = delta[from];
-                        if (since <= lambda[from])
-                            since = lambda[from] + 1u;
-                        if (mark == t || mark == t + ZG_CONTRACT + 1) {
-                            t++;
-                            row += darts;
-                        } else if (mark + 1 == t || mark == t + ZG_CONTRACT) {
-                            t--;
-                            row -= darts;
-                        } else
-                            return RESULT(zg_unfolding, {14, level, t, met});
-                        if (left-- == 0)
-                            return RESULT(zg_unfolding, {15, level, i, d});
-                        met = row[from];
-                        total++;
-                        if (met >= darts)
-                            return RESULT(zg_unfolding, {5, level, t, from});
-                    } while (lambda[met] < level);
-                }
+    for (unsigned d = 0; d < darts; d++) {
+        uint8_t low = delta[d] > ZG_CONTRACT ? (uint8_t)(delta[d] - ZG_CONTRACT - 1) : delta[d];
+        passes[d] = (uint16_t)((lambda[d] + 1) << 8 | low);
+    }
+}
+
+/* Walks from each survivor, by involution, then dart. Where no entry of the base strays, none is tested. Apart from the
+ * tests before it, so that its loops have the registers to themselves. */
+static inline __attribute__((always_inline)) zg_unfolding unfold_rows(unsigned n, unsigned darts, const uint16_t *rows,
+                                                                      const uint16_t *passes, unsigned level,
+                                                                      const struct present *present, bool strays,
+                                                                      uint16_t *table)
+{
+    size_t least = (level + 1) << 8, most = 0, size = present->size;
+    unsigned total = (n + 1) * present->size;
+    const uint16_t *row[6];
+    for (unsigned i = 0; i <= 5; i++)
+        row[i] = rows + i * darts;
+    for (unsigned i = 0; i <= n; i++, table += darts) {
+        const uint16_t *own = row[i];
+        for (size_t k = 0; k < size; k++) {
+            size_t d = present->dart[k], met = own[d], pass;
+            if (strays && met >= darts)
+                return RESULT(zg_unfolding, {5, (uint8_t)level, i, (uint16_t)d});
+            if ((pass = passes[met]) < least) {
+                const uint16_t *by = own;
+                unsigned left = 2 * darts;
+                do {
+                    size_t from = met, low = pass % 256;
+                    most = pass > most ? pass : most;
+                    if (by == row[low])
+                        by = row[low + 1];
+                    else if (by == row[low + 1])
+                        by = row[low];
+                    else
+                        return RESULT(zg_unfolding, {14, (uint8_t)level, (uint8_t)((by - rows) / darts), (uint16_t)met});
+                    if (left-- == 0)
+                        return RESULT(zg_unfolding, {15, (uint8_t)level, i, (uint16_t)d});
+                    met = by[from];
+                    if (strays && met >= darts)
+                        return RESULT(zg_unfolding, {5, (uint8_t)level, (uint8_t)((by - rows) / darts), (uint16_t)from});
+                } while ((pass = passes[met]) < least);
+                total += 2 * darts - left;
             }
             table[d] = (uint16_t)met;
         }
-    return RESULT(zg_unfolding, .count = total, .since = (uint8_t)since);
+    }
+    return RESULT(zg_unfolding, .count = total, .since = (uint8_t)(most >> 8));
+}
+
+__attribute__((noinline)) static zg_unfolding unfold_strict(unsigned n, unsigned darts, const uint16_t *rows,
+                                                            const uint16_t *passes, unsigned level,
+                                                            const struct present *present, uint16_t *table)
+{
+    return unfold_rows(n, darts, rows, passes, level, present, true, table);
+}
+
+__attribute__((noinline)) static zg_unfolding unfold_sound(unsigned n, unsigned darts, const uint16_t *rows,
+                                                           const uint16_t *passes, unsigned level,
+                                                           const struct present *present, uint16_t *table)
+{
+    return unfold_rows(n, darts, rows, passes, level, present, false, table);
+}
+
+static void list_survivors(unsigned darts, unsigned level, const uint8_t *lambda, struct present *present)
+{
+    unsigned size = 0;
+#pragma GCC unroll 4
+    for (unsigned d = 0; d < darts; d++) {
+        present->dart[size] = (uint16_t)d;
+        size += lambda[d] >= level;
+    }
+    present->size = size;
 }
 
 zg_unfolding plain_unfold(uint8_t n, uint16_t darts, uint8_t h, const uint16_t *rows, size_t rows_len,
@@ -559,9 +782,20 @@ zg_unfolding plain_unfold(uint8_t n, uint16_t darts, uint8_t h, const uint16_t *
     unsigned unfit = first_unfit(n, darts, h, lambda, delta);
     if (unfit < darts)
         return RESULT(zg_unfolding, {8, level, 0, unfit});
-    zg_unfolding r = unfold_rows(n, darts, rows, lambda, delta, level, table);
+    bool strays = !all_below(rows, len, darts);
+    if (level == 0 && !strays) {
+        copy_rows(n, darts, table, rows);
+        return RESULT(zg_unfolding, .count = (uint32_t)len);
+    }
+    struct present present;
+    uint16_t passes[ZG_MOST_DARTS];
+    set_passes(darts, lambda, delta, passes);
+    list_survivors(darts, level, lambda, &present);
+    memset(table, 255, len * sizeof *table);
+    zg_unfolding r = strays ? unfold_strict(n, darts, rows, passes, level, &present, table)
+                            : unfold_sound(n, darts, rows, passes, level, &present, table);
     if (r.refusal.number)
-        memset(table, 0xFF, len * sizeof *table);
+        memset(table, 255, len * sizeof *table);
     return r;
 }
 
@@ -692,6 +926,42 @@ zg_part plain_row(uint8_t n, uint16_t darts, uint8_t h, const uint16_t *base, si
     return RESULT(zg_part, .unfolded = level > 0, .start = (uint16_t)(involution * darts), .length = darts);
 }
 
+/* How many darts are on a level. A byte holds the count of 128 of them, so 16 are counted at a time. */
+static unsigned survivors_on(const uint8_t *lambda, unsigned darts, uint8_t level)
+{
+    unsigned count = 0, d = 0;
+    for (; d + 128 <= darts; d += 128) {
+        uint8_t some = 0;
+        for (unsigned k = 0; k < 128; k++)
+            some += lambda[d + k] >= level;
+        count += some;
+    }
+    for (; d < darts; d++)
+        count += lambda[d] >= level;
+    return count;
+}
+
+/* Eight bytes in one number, the first lowest; compilers make it one load where it is one. */
+static uint64_t eight_bytes(const uint8_t *from)
+{
+    uint64_t bytes = 0;
+    for (unsigned k = 0; k < 8; k++)
+        bytes |= (uint64_t)from[k] << 8 * k;
+    return bytes;
+}
+
+/* A word of eight darts at a time: a sum that reaches 128 says of each byte whether it is level or more, since no Lambda
+ * is above 32, and a product brings the eight signs together. */
+static uint64_t word_of(const uint8_t *lambda, uint8_t level)
+{
+    const uint64_t ones = 0x0101010101010101, together = 0x0102040810204080;
+    uint64_t word = 0, more = ones * (128u - level);
+#pragma GCC unroll 8
+    for (unsigned k = 0; k < 8; k++)
+        word |= ((eight_bytes(lambda + 8 * k) + more) >> 7 & ones) * together >> 56 << 8 * k;
+    return word;
+}
+
 zg_count plain_survivors(uint16_t darts, uint8_t h, const uint8_t *lambda, size_t lambda_len, uint8_t level,
                          uint64_t *words, size_t words_len)
 {
@@ -708,22 +978,21 @@ zg_count plain_survivors(uint16_t darts, uint8_t h, const uint8_t *lambda, size_
     for (unsigned d = 0; most > h; d++)
         if (lambda[d] > h)
             return RESULT(zg_count, {8, level, 0, d});
-    unsigned count = 0;
-    for (unsigned d = 0; d < darts; d++)
-        count += lambda[d] >= level;
-    for (unsigned w = 0; w < 64; w++) {
-        unsigned first = 64 * w, end = first + 64 < darts ? first + 64 : darts;
-        uint64_t word = 0;
-        for (unsigned d = end; d > first; d--)
-            word = 2 * word + (lambda[d - 1] >= level);
-        words[w] = word;
+    unsigned w = 0;
+    for (; w < darts / 64; w++)
+        words[w] = word_of(lambda + 64 * w, level);
+    if (w < 64) {
+        memset(words + w, 0, (64 - w) * sizeof *words);
+        for (unsigned d = 64 * w; d < darts; d++)
+            words[w] |= (uint64_t)(lambda[d] >= level) << d % 64;
     }
-    return RESULT(zg_count, .count = count);
+    return RESULT(zg_count, .count = survivors_on(lambda, darts, level));
 }
 
 /* ---------------------------------------------------------------- marking */
 
-static zg_refusal check_level(unsigned n, unsigned darts, const uint16_t *table)
+/* The first place of number 5, 6 or 7 in an explicit level, if there is one. */
+static zg_refusal find_bad_level(unsigned n, unsigned darts, const uint16_t *table)
 {
     for (unsigned i = 0; i <= n; i++) {
         const uint16_t *a = table + i * darts;
@@ -747,31 +1016,83 @@ static zg_refusal check_level(unsigned n, unsigned darts, const uint16_t *table)
     return RESULT(zg_refusal, 0);
 }
 
-/* Gives a value to all darts that one reaches by the rows of a mask, and that don't have it yet. */
-static void reach(unsigned n, unsigned darts, const uint16_t *table, unsigned rows, unsigned start, uint8_t *set,
-                  uint8_t value)
+/* Whether every dart is absent in all rows or in none, and no neighbour is darts or more. That a neighbour is absent
+ * shows where it doesn't lead back. */
+static bool entries_fit(unsigned n, unsigned darts, const uint16_t *table)
+{
+    uint16_t most = 0, differ = 0;
+    for (unsigned i = 0; i <= n; i++) {
+        const uint16_t *a = table + i * darts;
+        for (unsigned d = 0; d < darts; d++) {
+            uint16_t after = (uint16_t)(a[d] + 1); /* 0 if absent */
+            most = after > most ? after : most;
+            differ |= (uint16_t)((a[d] == ZG_ABSENT) ^ (table[d] == ZG_ABSENT));
+        }
+    }
+    return most <= darts && !differ;
+}
+
+static void list_present(unsigned darts, const uint16_t *table, struct present *present)
+{
+    unsigned size = 0;
+#pragma GCC unroll 4
+    for (unsigned d = 0; d < darts; d++) {
+        present->dart[size] = (uint16_t)d;
+        size += table[d] != ZG_ABSENT;
+    }
+    present->size = size;
+}
+
+static void list_all(unsigned darts, struct present *present)
+{
+    for (unsigned d = 0; d < darts; d++)
+        present->dart[d] = (uint16_t)d;
+    present->size = darts;
+}
+
+FOR_EACH_N bool level_fits(unsigned n, size_t darts, const uint16_t *table, const struct present *present)
+{
+    const uint16_t *row[5];
+    for (unsigned i = 0; i <= n; i++)
+        row[i] = table + i * darts;
+#pragma GCC unroll 4
+    for (size_t k = 0; k < present->size; k++)
+        if (!dart_fits(n, row, present->dart[k]))
+            return false;
+    return true;
+}
+
+static zg_refusal check_level(unsigned n, unsigned darts, const uint16_t *table, struct present *present)
+{
+    bool fits = false;
+    present->size = 0;
+    if (all_below(table, (size_t)(n + 1) * darts, darts)) {
+        list_all(darts, present);
+        fits = WITH_N(n, rows_fit, darts, table);
+    } else if (entries_fit(n, darts, table)) {
+        list_present(darts, table, present);
+        fits = WITH_N(n, level_fits, darts, table, present);
+    }
+    return fits ? RESULT(zg_refusal, 0) : find_bad_level(n, darts, table);
+}
+
+/* Gives a value to all darts of a cell that don't have it yet. */
+static void reach_cell(unsigned n, unsigned darts, const uint16_t *table, unsigned dimension, unsigned start,
+                       uint8_t *set, uint8_t value)
 {
     uint16_t open[ZG_MOST_DARTS];
     unsigned opens = 1;
     open[0] = (uint16_t)start;
     set[start] = value;
     while (opens) {
-        unsigned d = open[--opens];
-        for (unsigned j = 0; j <= n; j++) {
-            if (!(rows >> j & 1))
-                continue;
-            unsigned e = table[j * darts + d];
-            if (set[e] != value) {
-                set[e] = value;
-                open[opens++] = (uint16_t)e;
+        const uint16_t *to = table + open[--opens];
+        for (unsigned j = 0; j <= n; j++, to += darts)
+            if (j != dimension && set[*to] != value) {
+                set[*to] = value;
+                open[opens++] = *to;
             }
-        }
     }
 }
-
-enum { EVERY_ROW = 31 };
-static unsigned but_one(unsigned row) { return EVERY_ROW & ~(1u << row); }
-static unsigned but_two(unsigned row) { return EVERY_ROW & ~(3u << row); }
 
 void plain_removable(unsigned n, unsigned darts, const uint16_t *table, unsigned dimension, uint8_t *marks)
 {
@@ -782,41 +1103,167 @@ void plain_removable(unsigned n, unsigned darts, const uint16_t *table, unsigned
     const uint16_t *a = table + (dimension + 1) * darts, *b = a + darts;
     for (unsigned d = 0; d < darts; d++)
         if (marks[d] != ZG_STAY && b[a[d]] != a[b[d]])
-            reach(n, darts, table, but_one(dimension), d, marks, ZG_STAY);
+            reach_cell(n, darts, table, dimension, d, marks, ZG_STAY);
 }
 
-/* Takes the marks off the cells that are one part. In a removable cell a(dimension+1) leads from the one part to the
- * other, so the part of one dart decides it. */
-static void divide(unsigned n, unsigned darts, const uint16_t *table, unsigned dimension, uint8_t *marks)
+/* Marks the darts that a row leads neither to themselves nor to where another does; absent darts have 65,535 in both. */
+static void mark_where_apart(unsigned darts, const uint16_t *restrict a, const uint16_t *restrict left, uint8_t mark,
+                             uint8_t *restrict marks)
 {
-    const uint16_t *a = table + (dimension + 1) * darts;
-    uint8_t parts[ZG_MOST_DARTS] = {0};
-    for (unsigned d = 0; d < darts; d++) {
-        if (marks[d] == ZG_STAY || parts[d] || parts[a[d]])
-            continue;
-        reach(n, darts, table, but_two(dimension), d, parts, 1);
-        if (parts[a[d]])
-            reach(n, darts, table, but_one(dimension), d, marks, ZG_STAY);
+    uint16_t d = 0;
+    for (unsigned k = 0; k < darts; k++, d++) {
+        uint16_t together = (a[k] == d) | (a[k] == left[k]);
+        marks[k] = together ? ZG_STAY : mark;
     }
 }
 
-/* Takes the marks off the cell of the lowest dart of each piece that is marked as a whole. */
-static void spare(unsigned n, unsigned darts, const uint16_t *table, unsigned dimension, uint8_t *marks)
+static void mark_where_taken(unsigned darts, const uint16_t *restrict a, uint8_t mark, uint8_t *restrict marks)
 {
-    uint8_t pieces[ZG_MOST_DARTS] = {0};
-    for (unsigned d = 0; d < darts; d++)
-        if (table[d] != ZG_ABSENT && marks[d] == ZG_STAY && !pieces[d])
-            reach(n, darts, table, EVERY_ROW, d, pieces, 1);
-    for (unsigned d = 0; d < darts; d++)
-        if (marks[d] != ZG_STAY && !pieces[d]) {
-            reach(n, darts, table, but_one(dimension), d, marks, ZG_STAY);
-            reach(n, darts, table, EVERY_ROW, d, pieces, 1);
+    uint16_t d = 0;
+    for (unsigned k = 0; k < darts; k++, d++) {
+        uint16_t stays = (a[k] == d) | (a[k] == ZG_ABSENT);
+        marks[k] = stays ? ZG_STAY : mark;
+    }
+}
+
+/* With n up to 2 a part is a dart, or a dart and its neighbour by the one row left, so each dart tells for itself. */
+static void mark_darts(unsigned n, size_t darts, const uint16_t *table, unsigned dimension,
+                       const struct present *present, uint8_t *marks)
+{
+    const uint16_t *a = table + (dimension + 1) * darts, *left = table + 2 * darts;
+    if (n == 1)
+        mark_where_taken((unsigned)darts, a, (uint8_t)dimension, marks);
+    else if (dimension == 1)
+        mark_where_apart((unsigned)darts, a, table, (uint8_t)dimension, marks);
+    else {
+        memset(marks, ZG_STAY, darts);
+        for (size_t k = 0; k < present->size; k++) {
+            size_t d = present->dart[k], to = a[d], other = left[d];
+            if (to != d && to != other && left[to] == a[other])
+                marks[d] = (uint8_t)dimension;
         }
+    }
+}
+
+/* One search serves all: a cell is removable exactly if one of its parts has no dart that says otherwise, since
+ * a(dimension+1) then takes the part to a part, and the two are the cell. So a part that fits is marked with the one that
+ * a(dimension+1) leads to, unless it leads into the same.
+ *
+ * What the rows p and q reach is walked along, by the one and the other in turn. What is asked of a dart, and where the
+ * third row leads that n = 4 has, is the same for both darts of a step by p, so it is asked of one of the two. */
+FOR_EACH_N void mark_parts(unsigned n, size_t darts, const uint16_t *table, unsigned dimension, bool beyond,
+                           const struct present *present, uint8_t *marks)
+{
+    uint16_t part[ZG_MOST_DARTS] = {0}, members[ZG_MOST_DARTS], open[ZG_MOST_DARTS], stamp = 0;
+    unsigned first_row = dimension == 0 ? 2 : dimension == 1 && n == 4 ? 3 : 0;
+    unsigned second_row = first_row || dimension == 1 ? 3 + (first_row == 3) : 1;
+    const uint16_t *p = table + first_row * darts, *q = table + second_row * darts;
+    const uint16_t *r = table + (dimension == 1 ? 0 : dimension == 3 ? 2 : 4) * darts;
+    const uint16_t *a = table + (dimension + 1) * darts, *b = a + darts;
+    memset(marks, ZG_STAY, darts);
+    for (size_t k = 0; k < present->size; k++) {
+        size_t first = present->dart[k], size = 0, opens = 1;
+        bool fits = true;
+        if (part[first])
+            continue;
+        stamp++;
+        open[0] = (uint16_t)first;
+        do {
+            size_t start = open[--opens], d = start;
+            if (n == 4 && part[d] == stamp)
+                continue;
+            do {
+                part[d] = stamp;
+                members[size++] = (uint16_t)d;
+                if (beyond)
+                    fits &= b[(size_t)a[d]] == a[(size_t)b[d]];
+                if (n == 4 && part[(size_t)r[d]] != stamp)
+                    open[opens++] = r[d];
+                d = p[d];
+                part[d] = stamp;
+                d = q[d];
+            } while (d != start);
+        } while (n == 4 && opens);
+        if (!fits || part[(size_t)a[first]] == stamp)
+            continue;
+        for (size_t m = 0; m < size; m++) {
+            size_t d = members[m], e = a[d], beside_d = p[d], beside_e = p[e];
+            marks[d] = marks[beside_d] = marks[e] = marks[beside_e] = (uint8_t)dimension;
+            part[e] = part[beside_e] = stamp;
+        }
+    }
+}
+
+static void mark_candidates(unsigned n, unsigned darts, const uint16_t *table, unsigned dimension,
+                            const struct present *present, uint8_t *marks)
+{
+    if (n <= 2)
+        mark_darts(n, darts, table, dimension, present, marks);
+    else if (n == 3 && dimension + 2 <= n)
+        mark_parts(3, darts, table, dimension, true, present, marks);
+    else if (n == 3)
+        mark_parts(3, darts, table, dimension, false, present, marks);
+    else if (dimension + 2 <= n)
+        mark_parts(4, darts, table, dimension, true, present, marks);
+    else
+        mark_parts(4, darts, table, dimension, false, present, marks);
+}
+
+/* Whether a search of a piece meets a dart that is unmarked, or that an earlier search has met: that one ended so too. */
+FOR_EACH_N bool meets_other(unsigned n, const uint16_t *const *row, size_t first, uint16_t *met, uint16_t stamp)
+{
+    uint16_t open[ZG_MOST_DARTS];
+    size_t opens = 1;
+    open[0] = (uint16_t)first;
+    while (opens) {
+        size_t d = open[--opens];
+        for (unsigned j = 0; j <= n; j++) {
+            size_t e = row[j][d];
+            if (met[e] == stamp)
+                continue;
+            if (met[e])
+                return true;
+            met[e] = stamp;
+            open[opens++] = (uint16_t)e;
+        }
+    }
+    return false;
+}
+
+/* Takes the marks off the cell of the lowest dart of each piece that is marked as a whole. Most darts have a neighbour
+ * that tells at once that theirs is none. */
+FOR_EACH_N void spare(unsigned n, size_t darts, const uint16_t *table, unsigned dimension,
+                      const struct present *present, uint8_t *marks)
+{
+    uint16_t met[ZG_MOST_DARTS], stamp = 1;
+    const uint16_t *row[5];
+    for (unsigned j = 0; j <= n; j++)
+        row[j] = table + j * darts;
+    for (unsigned d = 0; d < darts; d++)
+        met[d] = marks[d] == ZG_STAY;
+    for (size_t k = 0; k < present->size; k++) {
+        size_t first = present->dart[k];
+        if (met[first])
+            continue;
+        bool known = false;
+        for (unsigned j = 0; j <= n && !known; j++)
+            known = met[(size_t)row[j][first]];
+        met[first] = ++stamp;
+        if (!known && !meets_other(n, row, first, met, stamp))
+            reach_cell(n, (unsigned)darts, table, dimension, (unsigned)first, marks, ZG_STAY);
+    }
+}
+
+static void spare_pieces(unsigned n, unsigned darts, const uint16_t *table, unsigned dimension,
+                         const struct present *present, uint8_t *marks)
+{
+    WITH_N(n, spare, darts, table, dimension, present, marks);
 }
 
 zg_refusal plain_mark_cells(uint8_t n, uint16_t darts, const uint16_t *table, size_t table_len, uint8_t dimension,
                             uint8_t *marks, size_t marks_len)
 {
+    struct present present;
     unsigned bad = bad_size(n, darts, 0);
     if (bad)
         return RESULT(zg_refusal, bad);
@@ -824,12 +1271,11 @@ zg_refusal plain_mark_cells(uint8_t n, uint16_t darts, const uint16_t *table, si
         return RESULT(zg_refusal, 4);
     if (dimension >= n)
         return RESULT(zg_refusal, 13, 0, dimension);
-    zg_refusal r = check_level(n, darts, table);
+    zg_refusal r = check_level(n, darts, table, &present);
     if (r.number)
         return r;
-    plain_removable(n, darts, table, dimension, marks);
-    divide(n, darts, table, dimension, marks);
-    spare(n, darts, table, dimension, marks);
+    mark_candidates(n, darts, table, dimension, &present, marks);
+    spare_pieces(n, darts, table, dimension, &present, marks);
     return r;
 }
 
@@ -853,7 +1299,7 @@ static unsigned bad_field(const uint8_t *bytes, size_t len, size_t at, unsigned 
 static void take_row(uint16_t *row, const uint8_t *body, unsigned darts)
 {
 #if __BYTE_ORDER__ == __ORDER_LITTLE_ENDIAN__
-    memcpy(row, body, 2 * darts);
+    copy(row, body, 2 * darts);
 #else
     for (unsigned d = 0; d < darts; d++)
         row[d] = (uint16_t)(body[2 * d] | body[2 * d + 1] << 8);
@@ -885,8 +1331,8 @@ zg_record plain_take(const uint8_t *bytes, size_t bytes_len, uint16_t *rows, siz
         return RESULT(zg_record, {4});
     for (unsigned i = 0; i <= n; i++)
         take_row(rows + i * darts, bytes + 10 + i * (3 + length), darts);
-    memcpy(lambda, bytes + at - 3 - 2 * darts, darts);
-    memcpy(delta, bytes + at - darts, darts);
+    copy(lambda, bytes + at - 3 - 2 * darts, darts);
+    copy(delta, bytes + at - darts, darts);
     zg_refusal checked = plain_check((uint8_t)n, (uint16_t)darts, (uint8_t)h, rows, entries, lambda, darts, delta, darts,
                                      table, entries);
     if (checked.number)
@@ -907,7 +1353,7 @@ static uint8_t *put_head(uint8_t *to, unsigned tag, unsigned length)
 static uint8_t *put_row(uint8_t *to, const uint16_t *row, unsigned darts)
 {
 #if __BYTE_ORDER__ == __ORDER_LITTLE_ENDIAN__
-    memcpy(to, row, 2 * darts);
+    copy(to, row, 2 * darts);
 #else
     for (unsigned d = 0; d < darts; d++) {
         to[2 * d] = (uint8_t)row[d];
@@ -935,21 +1381,13 @@ zg_written plain_write(uint8_t n, uint16_t darts, uint8_t h, const uint16_t *row
     for (unsigned i = 0; i <= n; i++)
         to = put_row(put_head(to, 0x10 + i, 2u * darts), rows + i * darts, darts);
     to = put_head(to, 0x30, darts);
-    memcpy(to, lambda, darts);
+    copy(to, lambda, darts);
     to = put_head(to + darts, 0x31, darts);
-    memcpy(to, delta, darts);
+    copy(to, delta, darts);
     return (zg_written){.length = length};
 }
 
 /* ---------------------------------------------------------------- decimation */
-
-static unsigned survivors_on(const uint8_t *lambda, unsigned darts, unsigned level)
-{
-    unsigned count = 0;
-    for (unsigned d = 0; d < darts; d++)
-        count += lambda[d] >= level;
-    return count;
-}
 
 zg_factor plain_decimation(uint8_t n, uint16_t darts, uint8_t h, const uint16_t *rows, size_t rows_len,
                            const uint8_t *lambda, size_t lambda_len, const uint8_t *delta, size_t delta_len,
@@ -960,7 +1398,7 @@ zg_factor plain_decimation(uint8_t n, uint16_t darts, uint8_t h, const uint16_t 
         return (zg_factor){.refusal = bad};
     if (level >= h)
         return RESULT(zg_factor, {11, level});
-    unsigned count = survivors_on(lambda, darts, level), next = survivors_on(lambda, darts, level + 1u);
+    unsigned count = survivors_on(lambda, darts, level), next = survivors_on(lambda, darts, (uint8_t)(level + 1));
     if (!next)
         return (zg_factor){.empty = 1};
     return (zg_factor){.factor = (double)count / (double)next};
@@ -975,77 +1413,120 @@ struct starts {
     unsigned size;
 };
 
-/* How many cells of one dimension have one of the darts to which another row led. A stamp for each count spares the set
- * that would have to be cleared. */
-static unsigned count_cells(unsigned n, unsigned darts, const uint16_t *table, unsigned dimension,
-                            const struct starts *from, uint16_t *stamps, uint16_t stamp)
+/* The rows by which a cell is searched: what the first two reach is walked along, by the one and the other in turn. All
+ * after these commute with the first, so they lead from both darts of a step by it to one such walk, and are followed
+ * from one of the two. */
+static void order_rows(unsigned n, unsigned dimension, unsigned *order)
 {
-    uint16_t open[ZG_MOST_DARTS];
-    unsigned count = 0;
-    for (unsigned k = 0; k < from->size; k++) {
-        unsigned first = from->dart[k], opens = 1;
-        if (from->by[k] == dimension || stamps[first] == stamp)
+    unsigned first = dimension == 0 ? 1 : dimension == 1 && n >= 3 ? 2 : 0;
+    *order++ = first;
+    for (unsigned i = first + 1; i <= n; i++)
+        if (i != dimension)
+            *order++ = i;
+    for (unsigned i = 0; i < first; i++)
+        if (i != dimension)
+            *order++ = i;
+}
+
+/* How many cells of one dimension have one of the darts to which another row led. A stamp for each count spares the set
+ * that would have to be cleared. A walk whose way back passes a free end takes its darts twice. */
+FOR_EACH_N unsigned count_cells_n(unsigned n, size_t darts, const uint16_t *table, unsigned dimension,
+                                  const struct starts *from, uint16_t *stamps, uint16_t stamp)
+{
+    uint16_t open[2 * ZG_MOST_DARTS];
+    const uint16_t *row[4];
+    unsigned order[4], count = 0;
+    order_rows(n, dimension, order);
+    for (unsigned j = 0; j < n; j++)
+        row[j] = table + order[j] * darts;
+    for (size_t k = 0; k < from->size; k++) {
+        if (stamps[from->dart[k]] == stamp || from->by[k] == dimension)
             continue;
-        stamps[first] = stamp;
-        open[0] = (uint16_t)first;
+        size_t opens = 1;
+        open[0] = from->dart[k];
         count++;
-        while (opens) {
-            const uint16_t *to = table + open[--opens];
-            for (unsigned j = 0; j <= n; j++, to += darts)
-                if (j != dimension && stamps[*to] != stamp) {
-                    stamps[*to] = stamp;
-                    open[opens++] = *to;
+        do {
+            size_t first = open[--opens], d = first;
+            if (n > 2 && stamps[d] == stamp)
+                continue;
+            do {
+                stamps[d] = stamp;
+                for (unsigned j = 2; j < n; j++) {
+                    size_t e = row[j][d];
+                    if (stamps[e] != stamp)
+                        open[opens++] = (uint16_t)e;
                 }
-        }
+                d = row[0][d];
+                stamps[d] = stamp;
+                if (n > 1)
+                    d = row[1][d];
+            } while (n > 1 && d != first);
+        } while (n > 2 && opens);
     }
     return count;
 }
 
-static void start_from(struct starts *from, const uint16_t *kernel, unsigned size)
+static unsigned count_cells(unsigned n, size_t darts, const uint16_t *table, unsigned dimension,
+                            const struct starts *from, uint16_t *stamps, uint16_t stamp)
 {
-    memcpy(from->dart, kernel, size * sizeof *kernel);
-    memset(from->by, ZG_STAY, size);
-    from->size = size;
+    return WITH_N(n, count_cells_n, darts, table, dimension, from, stamps, stamp);
+}
+
+static void start_from_all(struct starts *from, unsigned darts)
+{
+    for (unsigned d = 0; d < darts; d++)
+        from->dart[d] = (uint16_t)d;
+    memset(from->by, ZG_STAY, darts);
+    from->size = darts;
+}
+
+static void start_from(struct starts *from, unsigned n, unsigned level, const struct kinds *kinds)
+{
+    from->size = 0;
+    FOR_KINDS(n, level, kinds, kind)
+    for (unsigned d = kinds->first[kind]; d != ZG_ABSENT; d = kinds->next[d])
+        from->dart[from->size++] = (uint16_t)d;
+    memset(from->by, ZG_STAY, from->size);
 }
 
 /* The survivors that a row leads to from the kernel: it is made of whole cells, so only that of a dart's own dimension
  * leads out of it. */
-static void start_beside(struct starts *from, unsigned level, const uint16_t *table, const uint16_t *mark,
-                         const uint16_t *kernel, unsigned size, const struct way *ways)
+static void start_beside(struct starts *from, unsigned n, size_t darts, unsigned level, const uint16_t *table,
+                         const struct kinds *kinds)
 {
     from->size = 0;
-    for (unsigned k = 0; k < size; k++) {
-        unsigned own = mark[kernel[k]], survivor = table[ways[own % WAYS].own + kernel[k]];
+    FOR_KINDS(n, level, kinds, kind)
+    for (unsigned d = kinds->first[kind]; d != ZG_ABSENT; d = kinds->next[d]) {
+        unsigned survivor = table[dimension_of(kind) * darts + d];
         from->dart[from->size] = (uint16_t)survivor;
-        from->by[from->size] = (uint8_t)dimension_of(own);
-        from->size += mark[survivor] >> 8 > level;
+        from->by[from->size] = (uint8_t)dimension_of(kind);
+        from->size += !same_kernel(kinds->of[survivor], kind);
     }
 }
 
-/* The base is counted whole. From level to level a cell that meets no dart of the kernel stands: those that do are
- * counted before the removal, and after it those that have a survivor beside the kernel. */
-static void count_levels(unsigned n, unsigned darts, unsigned h, const uint16_t *mark, uint16_t *table, uint16_t *cells)
+/* Climbs, and counts on the way. The base is counted whole. From level to level a cell that meets no dart of the kernel
+ * stands: those that do are counted before the removal, and after it those that have a survivor beside the kernel. */
+static zg_refusal count_levels(unsigned n, unsigned darts, unsigned h, const struct kinds *kinds, uint16_t *table,
+                               uint16_t *cells)
 {
-    uint16_t order[ZG_MOST_DARTS], stamps[ZG_MOST_DARTS] = {0}, stamp = 1;
-    unsigned start[35];
-    struct way ways[WAYS];
+    uint16_t stamps[ZG_MOST_DARTS] = {0}, stamp = 1;
     struct starts from;
-    list_ways(n, darts, ways);
-    sort_by_kernel(darts, mark, order, start);
-    start_from(&from, order, darts);
+    start_from_all(&from, darts);
     for (unsigned i = 0; i <= n; i++)
         cells[i] = (uint16_t)count_cells(n, darts, table, i, &from, stamps, stamp++);
     for (unsigned l = 0; l < h; l++, cells += 5) {
-        const uint16_t *kernel = order + start[l];
-        unsigned size = start[l + 1] - start[l];
-        start_from(&from, kernel, size);
+        if (!kernel_fits(n, darts, l, table, kinds))
+            return climb(n, darts, l, l + 1, kinds, table);
+        start_from(&from, n, l, kinds);
         for (unsigned i = 0; i <= n; i++)
             cells[5 + i] = (uint16_t)(cells[i] - count_cells(n, darts, table, i, &from, stamps, stamp++));
-        start_beside(&from, l, table, mark, kernel, size, ways);
-        remove_kernel(n, darts, table, mark, kernel, size, ways);
+        start_beside(&from, n, darts, l, table, kinds);
+        remove_kernel(n, darts, l, table, kinds);
         for (unsigned i = 0; i <= n; i++)
             cells[5 + i] = (uint16_t)(cells[5 + i] + count_cells(n, darts, table, i, &from, stamps, stamp++));
     }
+    clear_gone(n, darts, h, kinds->of, table);
+    return RESULT(zg_refusal, 0);
 }
 
 zg_refusal plain_census(uint8_t n, uint16_t darts, uint8_t h, const uint16_t *rows, size_t rows_len,
@@ -1053,20 +1534,22 @@ zg_refusal plain_census(uint8_t n, uint16_t darts, uint8_t h, const uint16_t *ro
                         uint16_t *table, size_t table_len, uint16_t *cells, size_t cells_len, int32_t *sums,
                         size_t sums_len)
 {
+    struct kinds kinds;
+    uint16_t counted[ZG_CELLS] = {0};
     unsigned bad = bad_size(n, darts, h);
     if (bad)
         return RESULT(zg_refusal, bad);
     if (cells_len != ZG_CELLS || sums_len != ZG_SUMS)
         return RESULT(zg_refusal, 4);
-    zg_refusal r = plain_check(n, darts, h, rows, rows_len, lambda, lambda_len, delta, delta_len, table, table_len);
+    zg_refusal r = check_folded(n, darts, h, rows, rows_len, lambda, lambda_len, delta, delta_len, table_len);
     if (r.number)
         return r;
-    memset(cells, 0, ZG_CELLS * sizeof *cells);
+    start_climb(n, darts, rows, lambda, delta, &kinds, table);
+    r = count_levels(n, darts, h, &kinds, table, counted);
+    if (r.number)
+        return r;
+    memcpy(cells, counted, sizeof counted);
     memset(sums, 0, ZG_SUMS * sizeof *sums);
-    uint16_t mark[ZG_MOST_DARTS];
-    join_marks(darts, lambda, delta, mark);
-    memcpy(table, rows, rows_len * sizeof *rows);
-    count_levels(n, darts, h, mark, table, cells);
     for (unsigned l = 0; l <= h; l++)
         for (unsigned i = 0; i <= n; i++)
             sums[l] += i & 1 ? -(int32_t)cells[5 * l + i] : (int32_t)cells[5 * l + i];
@@ -1083,22 +1566,39 @@ static zg_refusal find_bad_partner(unsigned m, const uint16_t *row, unsigned i)
     return RESULT(zg_refusal, 0);
 }
 
-static zg_refusal check_partner(unsigned m, const uint16_t *edges, const uint16_t *vertices)
+/* The first dart whose image an earlier dart had; there is one. */
+static zg_refusal find_two_to_one(unsigned m, const uint16_t *vertices)
 {
     bool had[2048] = {false};
+    unsigned d = 0;
+    for (; d < m && !had[vertices[d]]; d++)
+        had[vertices[d]] = true;
+    return RESULT(zg_refusal, 21, 0, 1, d);
+}
+
+/* A row of m darts below m sends two to one exactly if some dart is no image. */
+static bool is_permutation(unsigned m, const uint16_t *row)
+{
+    uint8_t image[2048] = {0}, all = 1;
+#pragma GCC unroll 4
+    for (unsigned d = 0; d < m; d++)
+        image[row[d]] = 1;
+    for (unsigned d = 0; d < m; d++)
+        all &= image[d];
+    return all;
+}
+
+static zg_refusal check_partner(unsigned m, const uint16_t *edges, const uint16_t *vertices)
+{
     if (!all_below(edges, m, m))
         return find_bad_partner(m, edges, 0);
     if (!all_below(vertices, m, m))
         return find_bad_partner(m, vertices, 1);
+#pragma GCC unroll 4
     for (unsigned d = 0; d < m; d++)
-        if (edges[edges[d]] != d)
+        if (edges[edges[d]] != (uint16_t)d)
             return RESULT(zg_refusal, 6, 0, 0, d);
-    for (unsigned d = 0; d < m; d++) {
-        if (had[vertices[d]])
-            return RESULT(zg_refusal, 21, 0, 1, d);
-        had[vertices[d]] = true;
-    }
-    return RESULT(zg_refusal, 0);
+    return is_permutation(m, vertices) ? RESULT(zg_refusal, 0) : find_two_to_one(m, vertices);
 }
 
 zg_refusal plain_import(uint16_t m, const uint16_t *edges, size_t edges_len, const uint16_t *vertices,
@@ -1116,13 +1616,40 @@ zg_refusal plain_import(uint16_t m, const uint16_t *edges, size_t edges_len, con
         a0[2 * d] = (uint16_t)(2 * edges[d] + 1);
         a0[2 * d + 1] = (uint16_t)(2 * edges[d]);
     }
-    for (unsigned d = 0; d < m; d++) {
-        a1[2 * d + 1] = (uint16_t)(2 * vertices[d]);
-        a1[2 * vertices[d]] = (uint16_t)(2 * d + 1);
+#pragma GCC unroll 4
+    for (size_t d = 0; d < m; d++) {
+        size_t to = 2 * (size_t)vertices[d];
+        a1[2 * d + 1] = (uint16_t)to;
+        a1[to] = (uint16_t)(2 * d + 1);
     }
     for (unsigned d = 0; d < 2u * m; d++)
         a2[d] = (uint16_t)(d ^ 1);
     return RESULT(zg_refusal, 0);
+}
+
+/* Whether the rows are valid and two rows yield them, all at once. a_2 is as it must be, and a_0 takes pairs to pairs, so
+ * the two commute, and that the even darts come back by a_0 is enough. a_1 takes odd darts to even ones; where all odd
+ * ones come back by it, the even ones are all met, and come back too. */
+static bool yields(unsigned m, const uint16_t *rows)
+{
+    const uint16_t *a0 = rows, *a1 = rows + 2 * m, *a2 = rows + 4 * m;
+    uint16_t differ = 0, even = 0, odd = 1;
+    if (!all_below(rows, 6 * (size_t)m, 2 * m))
+        return false;
+    for (unsigned d = 0; d < 2 * m; d++)
+        differ |= (uint16_t)(a2[d] ^ d ^ 1);
+    for (unsigned d = 0; d < m; d++) {
+        differ |= (uint16_t)(a0[2 * d] ^ a0[2 * d + 1] ^ 1);
+        even |= a1[2 * d + 1];
+        odd &= a0[2 * d];
+    }
+    if (differ | (even & 1) | !odd)
+        return false;
+#pragma GCC unroll 2
+    for (size_t d = 0; d < 2 * m; d += 2)
+        if (a0[a0[d]] != (uint16_t)d || a1[a1[d + 1]] != (uint16_t)(d + 1))
+            return false;
+    return true;
 }
 
 zg_refusal plain_export(uint8_t n, uint16_t darts, const uint16_t *rows, size_t rows_len, uint16_t *edges,
@@ -1135,15 +1662,11 @@ zg_refusal plain_export(uint8_t n, uint16_t darts, const uint16_t *rows, size_t 
         return RESULT(zg_refusal, 2);
     if (rows_len != 3u * darts || edges_len != m || vertices_len != m)
         return RESULT(zg_refusal, 4);
-    zg_refusal bad = check_rows(2, darts, rows);
-    if (bad.number)
-        return bad;
-    const uint16_t *a0 = rows, *a1 = rows + darts, *a2 = rows + 2 * darts;
-    if (darts % 2)
-        return RESULT(zg_refusal, 22);
-    for (unsigned d = 0; d < m; d++)
-        if (a2[2 * d] != 2 * d + 1 || a1[2 * d + 1] % 2 || !(a0[2 * d] % 2))
-            return RESULT(zg_refusal, 22);
+    if (darts % 2 || !yields(m, rows)) {
+        zg_refusal bad = check_rows(2, darts, rows);
+        return bad.number ? bad : RESULT(zg_refusal, 22);
+    }
+    const uint16_t *a0 = rows, *a1 = rows + darts;
     for (unsigned d = 0; d < m; d++) {
         edges[d] = a0[2 * d] / 2;
         vertices[d] = a1[2 * d + 1] / 2;
@@ -1153,23 +1676,65 @@ zg_refusal plain_export(uint8_t n, uint16_t darts, const uint16_t *rows, size_t 
 
 /* ---------------------------------------------------------------- regions */
 
-/* Names all darts that one reaches and that have no name yet. */
-static void name_region(unsigned n, unsigned darts, const uint16_t *rows, const uint8_t *lambda, const uint8_t *delta,
-                        unsigned level, unsigned start, uint16_t *names)
+/* Names what a dart reaches by a_0, and by a_1 where it may: the region is a row of edges or a ring. */
+static void name_line(const uint16_t *a0, const uint16_t *a1, const uint8_t *passes, unsigned start, uint16_t *names)
 {
-    uint16_t open[ZG_MOST_DARTS];
-    unsigned opens = 1;
-    open[0] = names[start] = (uint16_t)start;
-    while (opens) {
-        unsigned d = open[--opens], used = n + ((lambda[d] < level) & (delta[d] + 1u == n));
-        for (unsigned j = 0; j < used; j++) {
-            unsigned e = rows[j * darts + d];
-            if (names[e] == ZG_ABSENT) {
-                names[e] = (uint16_t)start;
-                open[opens++] = (uint16_t)e;
-            }
-        }
+    unsigned d = start;
+    for (;;) {
+        names[d] = (uint16_t)start;
+        d = a0[d];
+        names[d] = (uint16_t)start;
+        if (!passes[d] || names[a1[d]] != ZG_ABSENT)
+            break;
+        d = a1[d];
     }
+    for (d = start; passes[d] && names[a1[d]] == ZG_ABSENT; d = a0[d]) {
+        d = a1[d];
+        names[d] = names[a0[d]] = (uint16_t)start;
+    }
+}
+
+/* Names all darts that one reaches and that have no name yet. What a_0 and a_1 reach is walked along, by the one and the
+ * other in turn. The other rows commute with a_0, and lead from both darts of a step by a_0 to one such walk, so they are
+ * followed from one of the two. A walk whose way back passes a free end takes its darts twice. */
+FOR_EACH_N void name_region(unsigned n, size_t darts, const uint16_t *rows, const uint8_t *passes, unsigned start,
+                            uint16_t *names)
+{
+    uint16_t open[3 * ZG_MOST_DARTS];
+    unsigned opens = 1;
+    open[0] = (uint16_t)start;
+    while (opens) {
+        unsigned first = open[--opens], d = first;
+        if (names[first] != ZG_ABSENT)
+            continue;
+        do {
+            names[d] = (uint16_t)start;
+            for (unsigned j = 2; j < n; j++)
+                if (names[rows[j * darts + d]] == ZG_ABSENT)
+                    open[opens++] = rows[j * darts + d];
+            if (passes[d] && names[rows[n * darts + d]] == ZG_ABSENT)
+                open[opens++] = rows[n * darts + d];
+            d = rows[d];
+            names[d] = (uint16_t)start;
+            d = rows[darts + d];
+        } while (d != first);
+    }
+}
+
+FOR_EACH_N void name_all(unsigned n, size_t darts, const uint16_t *rows, const uint8_t *passes, uint16_t *names)
+{
+    for (unsigned d = 0; d < darts; d++)
+        if (names[d] == ZG_ABSENT) {
+            if (n == 1)
+                name_line(rows, rows + darts, passes, d, names);
+            else
+                name_region(n, darts, rows, passes, d, names);
+        }
+}
+
+static void name_regions(unsigned n, unsigned darts, const uint16_t *rows, const uint8_t *passes, uint16_t *names)
+{
+    WITH_N(n, name_all, darts, rows, passes, names);
 }
 
 zg_refusal plain_regions(uint8_t n, uint16_t darts, uint8_t h, const uint16_t *rows, size_t rows_len,
@@ -1184,105 +1749,153 @@ zg_refusal plain_regions(uint8_t n, uint16_t darts, uint8_t h, const uint16_t *r
         return r;
     if (level > h)
         return RESULT(zg_refusal, 11, level);
-    for (unsigned d = 0; d < darts; d++)
+    uint8_t passes[ZG_MOST_DARTS], last = (uint8_t)(n - 1), most = 0;
+    for (unsigned d = 0; d < darts; d++) {
+        passes[d] = (lambda[d] < level) & (delta[d] == last);
+        most = delta[d] > most ? delta[d] : most;
+    }
+    for (unsigned d = 0; most > ZG_CONTRACT; d++)
         if (delta[d] > ZG_CONTRACT)
             return RESULT(zg_refusal, 23, 0, 0, (uint16_t)d);
-    for (unsigned d = 0; d < darts; d++)
-        names[d] = ZG_ABSENT;
-    for (unsigned d = 0; d < darts; d++)
-        if (names[d] == ZG_ABSENT)
-            name_region(n, darts, rows, lambda, delta, level, d, names);
+    memset(names, 255, darts * sizeof *names);
+    name_regions(n, darts, rows, passes, names);
     return r;
 }
 
 /* ---------------------------------------------------------------- join */
 
+/* Whether kernels l and l+1 are whole cells of level l together. Kernel l is, so only the darts of the next one are
+ * tested: each other row must lead to the same mark in one of the two. */
+static bool joins(unsigned n, size_t darts, unsigned level, const uint16_t *table, const struct kinds *kinds)
+{
+    FOR_KINDS(n, level + 1, kinds, kind)
+    for (unsigned d = kinds->first[kind]; d != ZG_ABSENT; d = kinds->next[d]) {
+        const uint16_t *to = table + d;
+        for (unsigned j = 0; j <= n; j++, to += darts) {
+            unsigned met = kinds->of[*to];
+            if (UNLIKELY(met != kind) && met != kind - MARKS && j != dimension_of(kind))
+                return false;
+        }
+    }
+    return true;
+}
+
+/* Climbs to level l once more, for the place where the joined kernel isn't whole. */
+static zg_refusal find_unjoined(unsigned n, unsigned darts, unsigned level, const uint16_t *rows, struct kinds *kinds,
+                                uint16_t *table)
+{
+    copy_rows(n, darts, table, rows);
+    for (unsigned k = 0; k < level; k++)
+        remove_kernel(n, darts, k, table, kinds);
+    clear_gone(n, darts, level, kinds->of, table);
+    for (unsigned d = 0; d < darts; d++)
+        if (kinds->of[d] >= least_kind(level + 1))
+            kinds->of[d] = (uint16_t)(kinds->of[d] - MARKS);
+    return find_unfit(n, darts, level, table, kinds->of);
+}
+
+/* One climb: whether the kernels can be joined is seen in passing, and said after all that a check says. */
 zg_height plain_join(uint8_t n, uint16_t darts, uint8_t h, const uint16_t *rows, size_t rows_len, uint8_t *lambda,
                      size_t lambda_len, const uint8_t *delta, size_t delta_len, uint16_t *table, size_t table_len,
                      uint8_t level)
 {
-    zg_refusal bad = plain_check(n, darts, h, rows, rows_len, lambda, lambda_len, delta, delta_len, table, table_len);
-    if (bad.number)
-        return RESULT(zg_height, bad, h);
-    if (level + 1 >= h)
+    struct kinds kinds;
+    zg_refusal r = check_folded(n, darts, h, rows, rows_len, lambda, lambda_len, delta, delta_len, table_len);
+    if (r.number)
+        return RESULT(zg_height, r, h);
+    bool is_level = level + 1 < h, joined = false;
+    start_climb(n, darts, rows, lambda, delta, &kinds, table);
+    if (is_level) {
+        r = climb(n, darts, 0, level, &kinds, table);
+        joined = !r.number && joins(n, darts, level, table, &kinds);
+    }
+    if (!r.number)
+        r = climb(n, darts, is_level ? level : 0, h, &kinds, table);
+    if (!r.number && is_level && !joined)
+        r = find_unjoined(n, darts, level, rows, &kinds, table);
+    if (r.number)
+        return RESULT(zg_height, r, h);
+    clear_gone(n, darts, h, kinds.of, table);
+    if (!is_level)
         return RESULT(zg_height, {11, level}, h);
-    uint8_t joined[ZG_MOST_DARTS];
-    uint16_t mark[ZG_MOST_DARTS];
     for (unsigned d = 0; d < darts; d++)
-        joined[d] = (uint8_t)(lambda[d] - (lambda[d] > level));
-    join_marks(darts, joined, delta, mark);
-    memcpy(table, rows, rows_len * sizeof *rows);
-    bad = climb(n, darts, h - 1u, mark, table);
-    if (bad.number)
-        return RESULT(zg_height, bad, h);
-    memcpy(lambda, joined, darts);
+        lambda[d] = (uint8_t)(lambda[d] - (lambda[d] > level));
     return RESULT(zg_height, .height = (uint8_t)(h - 1));
 }
 
 /* ---------------------------------------------------------------- starting again */
 
-/* Kernels 0 to level-1, which were accepted, taken in the rows themselves. */
-static void climb_accepted(unsigned n, unsigned darts, unsigned level, const uint8_t *lambda, const uint8_t *delta,
-                           uint16_t *rows)
-{
-    uint16_t mark[ZG_MOST_DARTS], order[ZG_MOST_DARTS];
-    unsigned start[35];
-    struct way ways[WAYS];
-    join_marks(darts, lambda, delta, mark);
-    list_ways(n, darts, ways);
-    sort_by_kernel(darts, mark, order, start);
-    for (unsigned k = 0; k < level; k++)
-        remove_kernel(n, darts, rows, mark, order + start[k], start[k + 1] - start[k], ways);
-}
+/* A level under new numbers, kept while the climb goes on. */
+struct packed {
+    uint16_t rows[ZG_MOST_ENTRIES], old[ZG_MOST_DARTS];
+    unsigned darts;
+};
 
-/* New numbers first, for the rows; each entry is written at or before the place where it was read. */
-static void pack(unsigned n, unsigned darts, unsigned level, uint16_t *rows, uint8_t *lambda, uint8_t *delta,
-                 uint16_t *old)
+static void pack(unsigned n, unsigned darts, unsigned level, const uint16_t *table, const uint16_t *of,
+                 struct packed *packed)
 {
-    unsigned to = 0;
+    uint16_t number[ZG_MOST_DARTS];
+    uint16_t *next = packed->rows, *old = packed->old;
+    unsigned least = least_kind(level), size = 0;
+#pragma GCC unroll 4
     for (unsigned d = 0; d < darts; d++) {
-        old[d] = (uint16_t)to;
-        to += lambda[d] >= level;
+        number[d] = (uint16_t)size;
+        old[size] = (uint16_t)d;
+        size += of[d] >= least;
     }
-    uint16_t *next = rows;
-    for (unsigned i = 0; i <= n; i++)
-        for (unsigned d = 0; d < darts; d++)
-            if (lambda[d] >= level)
-                *next++ = old[rows[i * darts + d]];
-    memset(next, 255, sizeof *rows * (size_t)(rows + (n + 1) * darts - next));
-    to = 0;
-    for (unsigned d = 0; d < darts; d++)
-        if (lambda[d] >= level) {
-            lambda[to] = (uint8_t)(lambda[d] - level);
-            delta[to] = delta[d];
-            old[to] = (uint16_t)d;
-            to++;
-        }
-    memset(lambda + to, 255, darts - to);
-    memset(delta + to, 255, darts - to);
-    memset(old + to, 255, sizeof *old * (darts - to));
+    packed->darts = size;
+    for (unsigned i = 0; i <= n; i++, table += darts)
+#pragma GCC unroll 4
+        for (unsigned k = 0; k < size; k++)
+            *next++ = number[table[old[k]]];
 }
 
+/* Lambda, Delta and rows of the level packed; each mark is written at or before the place where it was read. */
+static void unpack(unsigned n, unsigned darts, unsigned level, const struct packed *packed, uint16_t *rows,
+                   uint8_t *lambda, uint8_t *delta, uint16_t *old)
+{
+    size_t size = packed->darts, gone = darts - size;
+    copy_rows(n, packed->darts, rows, packed->rows);
+    copy(old, packed->old, size * sizeof *old);
+#pragma GCC unroll 4
+    for (size_t k = 0; k < size; k++) {
+        lambda[k] = (uint8_t)(lambda[packed->old[k]] - level);
+        delta[k] = delta[packed->old[k]];
+    }
+    memset(rows + (n + 1) * size, 255, (n + 1) * gone * sizeof *rows);
+    memset(lambda + size, 255, gone);
+    memset(delta + size, 255, gone);
+    memset(old + size, 255, gone * sizeof *old);
+}
+
+/* One climb: level l is packed in passing, and put in the rows' place when all is accepted. */
 zg_base plain_rebase(uint8_t n, uint16_t darts, uint8_t h, uint16_t *rows, size_t rows_len, uint8_t *lambda,
                      size_t lambda_len, uint8_t *delta, size_t delta_len, uint16_t *table, size_t table_len,
                      uint8_t level, uint16_t *old, size_t old_len)
 {
-    unsigned bad = bad_size(n, darts, h);
+    struct kinds kinds;
+    struct packed packed;
+    unsigned bad = bad_size(n, darts, h), middle = level <= h ? level : h;
     if (bad)
         return RESULT(zg_base, {bad}, darts, h);
     if (old_len != darts)
         return RESULT(zg_base, {4}, darts, h);
-    zg_refusal r = plain_check(n, darts, h, rows, rows_len, lambda, lambda_len, delta, delta_len, table, table_len);
+    zg_refusal r = check_folded(n, darts, h, rows, rows_len, lambda, lambda_len, delta, delta_len, table_len);
     if (r.number)
         return (zg_base){r, darts, h};
+    start_climb(n, darts, rows, lambda, delta, &kinds, table);
+    r = climb(n, darts, 0, middle, &kinds, table);
+    if (r.number)
+        return (zg_base){r, darts, h};
+    pack(n, darts, middle, table, kinds.of, &packed);
+    r = climb(n, darts, middle, h, &kinds, table);
+    if (r.number)
+        return (zg_base){r, darts, h};
+    clear_gone(n, darts, h, kinds.of, table);
     if (level > h)
         return RESULT(zg_base, {11, level}, darts, h);
-    unsigned kept = 0;
-    for (unsigned d = 0; d < darts; d++)
-        kept += lambda[d] >= level;
-    if (!kept)
+    if (!packed.darts)
         return RESULT(zg_base, {2}, darts, h);
-    climb_accepted(n, darts, level, lambda, delta, rows);
-    pack(n, darts, level, rows, lambda, delta, old);
-    return (zg_base){{0}, (uint16_t)kept, (uint8_t)(h - level)};
+    unpack(n, darts, level, &packed, rows, lambda, delta, old);
+    return (zg_base){{0}, (uint16_t)packed.darts, (uint8_t)(h - level)};
 }

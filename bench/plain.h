@@ -31,8 +31,8 @@ __typeof__(zg_regions) plain_regions;
 __typeof__(zg_join) plain_join;
 __typeof__(zg_rebase) plain_rebase;
 
-/* As plain_read_by_levels, but passing at once over the levels on which a step finds its dart unchanged. */
-__typeof__(zg_read_by_levels) plain_read_by_levels_skipping;
+/* As plain_read_by_levels, but by the definition: each step is a reading one level lower, also where nothing changes. */
+__typeof__(zg_read_by_levels) plain_read_level_by_level;
 
 /* Marks all removable cells of one dimension of a valid level, whatever their parts: the first step of marking. */
 void plain_removable(unsigned n, unsigned darts, const uint16_t *table, unsigned dimension, uint8_t *marks);

@@ -85,17 +85,13 @@ line() {
     }'
 }
 
-# limit JOB MAP: the target, or what the document's form costs where that is more: an unfolding should
-# take 1.05 times as many instructions as C, a reading by levels 1.50 times on path32 and both1 too (docs/MEASURED.md).
+# limit JOB: the target. The C takes the fastest way that was found for each job, whichever way the library takes.
 limit() {
-    case $1/$2 in
-    check/* | add/*) echo 1.05 ;;
-    unfold/*) echo 1.10 ;;
-    bylevels/path32 | bylevels/both1) echo 1.70 ;;
-    bylevels/*) echo 1.50 ;;
-    read/*) echo 1.00 ;;
-    unfoldall/*) echo 1.30 ;;
-    *) echo 1.20 ;;
+    case $1 in
+    check | add | unfold | base) echo 1.05 ;;
+    read) echo 1.00 ;;
+    census | unfoldall) echo 1.30 ;;
+    *) echo 1.15 ;;
     esac
 }
 
@@ -112,14 +108,14 @@ for job in $jobs; do
         lib=$(own library "$job" "$map") && c=$(own c "$job" "$map") || exit 2
         read -r n darts h reads <"$BUILD/counts/$job.$map.facts"
         printf '%-10s %-22s ' "$job" "$map ($n, $darts, $h)"
-        line "$lib" "$c" "$reads" "$(limit "$job" "$map")" || over=$((over + 1))
+        line "$lib" "$c" "$reads" "$(limit "$job")" || over=$((over + 1))
     done
 done
 
 echo
-echo "readings by levels in C that pass at once over levels without a change (those above go level by level)"
+echo "readings by levels in C that go level by level (those above pass at once over levels without a change)"
 for map in $maps; do
-    c=$(count skipping bylevels "$map") || exit 2
+    c=$(count stepwise bylevels "$map") || exit 2
     read -r n darts h reads <"$BUILD/counts/bylevels.$map.facts"
     each=$(awk -v c="$c" -v reads="$reads" 'BEGIN { printf "%.2f", c / reads }')
     printf "$columns\n" bylevels "$map ($n, $darts, $h)" "" "$c" "$reads" "" "$each"
