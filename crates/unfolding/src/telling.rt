@@ -135,14 +135,15 @@ pub(crate) fn tell(
     no_counts(counts);
     no_since(since);
     let mut from: usize = 0;
-    for l in 0..top {
-        counts[l as usize] = total(n, lambda, Level(l), &reads[..size]);
-        since[l as usize] = latest(n, lambda, Level(l), &stands[..size]) as u8;
-        let first = head[l as usize];
+    for l in 0..top as usize {
+        let level = Level(l as u8);
+        counts[l] = total(n, lambda, level, &reads[..size]);
+        since[l] = latest(n, lambda, level, &stands[..size]) as u8;
+        let first = head[l];
         let kernel = Kernel {
             n,
             darts,
-            level: Level(l),
+            level,
             first,
         };
         let to = from + size;

@@ -20,11 +20,11 @@ use Rattle.unfolding.proofs.telling.tell.Statement.{statement}
 use Rattle.unfolding.proofs.telling.tell.Tie as tie
 
 abbrev Inv-loop : tie.InvT-loop
-Inv-loop lambda delta tables counts₀ since₀ n darts top size head next reads₀ stands₀ from₀ l₀ counts since reads stands from l =
+Inv-loop lambda delta tables counts₀ since₀ n darts top size head next reads₀ stands₀ from₀ l₀ l-end counts since reads stands from l =
     (l ≤ top) × (from ≡ l * size) × (length reads ≡ 20480) × (length stands ≡ 20480) × (length counts ≡ 33) × (length since ≡ 33) × ((rows : List ℕ) (L : Levels (ofParts (n .0) darts top rows lambda delta) tables) → Here (ofParts (n .0) darts top rows lambda delta) tables L counts₀ since₀ counts since (take size reads) (take size stands) l)
 
 abbrev μ-loop : tie.MeasureT-loop
-μ-loop lambda delta tables counts₀ since₀ n darts top size head next reads₀ stands₀ from₀ l₀ counts since reads stands from l = top - l
+μ-loop lambda delta tables counts₀ since₀ n darts top size head next reads₀ stands₀ from₀ l₀ l-end counts since reads stands from l = top - l
 
 -- the entry, from where the size is known; the end of linking, from the head of the loop
 abbrev start : tie.After-entries Inv-loop μ-loop → tie.Start Inv-loop μ-loop
@@ -216,20 +216,19 @@ tell-spec =
     link-requires
     (λ c κs. search needs)
     (λ c κs. search needs)
+    (λ c. search needs)
     loop-holds
+    (λ c. let h = c .before in omega (arith, h .loop .inv .0, below h))
     (λ c. reads-fit (c .before))
     (λ c. sym (reads-part (c .before .before)))
     (λ c κs. let h = c .before .before in asked h (reads-part h))
-    (λ c. let h = c .before .before .before in omega (arith, h .loop .inv .0, below h))
     (λ c. let h = c .before .before .before in omega (arith, h .loop .inv .0, below h))
     (λ c. let h = c .before .before .before in omega (arith, h .loop .inv .4, below h, c .before .before .loop-test .taken))
     (λ c. stands-fit (c .before .before .before))
     (λ c. sym (stands-part (c .before .before .before .before)))
     (λ c κs. let h = c .before .before .before .before in asked h (stands-part h))
     (λ c. omega (arith, latest-small c))
-    (λ c. let h = at-latest c .before in omega (arith, h .loop .inv .0, below h))
     (λ c. let h = at-latest c .before in omega (arith, h .loop .inv .5, below h, at-latest c .loop-test .taken))
-    (λ c. let h = at-latest c .before in omega (arith, h .loop .inv .0, below h))
     (λ c. let h = at-latest c .before in omega (arith, h .loop .inv .0, below h))
     (λ c. let h = at-latest c .before in omega (arith, h .loop .inv .0, below h))
     (λ c. omega (arith, room (at-latest c)))
