@@ -151,18 +151,19 @@ fn any_refused(n: Dim, h: Level, lambda: &[u8], row: &[u8]) -> bool
 }
 
 // The first dart whose entry is refused, with level h.
-fn first_refused(n: Dim, darts: u16, h: Level, lambda: &[u8], row: &[u8]) -> Check
-    requires { ⌜ (length (now lambda) ≡ darts) × (length (now row) ≡ darts) ⌝ }
-    ensures { λ r. ⌜ verdictOf r ≡ rowMarks (n .0) darts (h .0) (now (lambda .entry)) (now (row .entry)) ⌝ }
+fn first_refused(sizes: Sizes, lambda: &[u8], row: &[u8]) -> Check
+    requires { ⌜ (length (now lambda) ≡ sizes .darts) × (length (now row) ≡ sizes .darts) ⌝ }
+    ensures { λ r. ⌜ verdictOf r ≡ rowMarks (sizes .n .0) (sizes .darts) (sizes .h .0) (now (lambda .entry)) (now (row .entry)) ⌝ }
 {
-    for d in 0..darts {
+    for d in 0..sizes.darts {
         let at = d as usize;
         if mark_refused(
-            n,
-            h,
+            sizes.n,
+            sizes.h,
             answers::lambda_at(lambda, at),
             answers::delta_at(row, at),
         ) {
+            let h = sizes.h;
             return Check::Refused(Refusal::Marks(h, Dim(0), d));
         }
     }
@@ -170,12 +171,12 @@ fn first_refused(n: Dim, darts: u16, h: Level, lambda: &[u8], row: &[u8]) -> Che
 }
 
 // Number 8 of the mark row; the dart is sought only if there is one.
-fn row_checked(n: Dim, darts: u16, h: Level, lambda: &[u8], row: &[u8]) -> Check
-    requires { ⌜ (length (now lambda) ≡ darts) × (length (now row) ≡ darts) ⌝ }
-    ensures { λ r. ⌜ verdictOf r ≡ rowMarks (n .0) darts (h .0) (now (lambda .entry)) (now (row .entry)) ⌝ }
+fn row_checked(sizes: Sizes, lambda: &[u8], row: &[u8]) -> Check
+    requires { ⌜ (length (now lambda) ≡ sizes .darts) × (length (now row) ≡ sizes .darts) ⌝ }
+    ensures { λ r. ⌜ verdictOf r ≡ rowMarks (sizes .n .0) (sizes .darts) (sizes .h .0) (now (lambda .entry)) (now (row .entry)) ⌝ }
 {
-    if any_refused(n, h, lambda, row) {
-        return first_refused(n, darts, h, lambda, row);
+    if any_refused(sizes.n, sizes.h, lambda, row) {
+        return first_refused(sizes, lambda, row);
     }
     Check::Accepted
 }
@@ -188,7 +189,7 @@ fn add_marked(sizes: Sizes, rows: &[u16], lambda: &[u8], delta: &[u8], row: &[u8
     if let Check::Refused(r) = base_and_marks(sizes, rows, lambda, delta) {
         return Check::Refused(r);
     }
-    row_checked(sizes.n, sizes.darts, sizes.h, lambda, row)
+    row_checked(sizes, lambda, row)
 }
 
 // Λ of a dart once the level is added: darts marked get the old h, the other survivors the new one.

@@ -13,22 +13,22 @@ use Rattle.checking.proofs.pyramid.first_refused.Statement.{statement}
 use Rattle.checking.proofs.pyramid.first_refused.Tie as tie
 
 abbrev Inv-loop : tie.InvT-loop
-Inv-loop n darts h lambda row d₀ d = (d ≤ darts) × (scan d (atRow8 (n .0) (h .0) (each lambda) (each row)) ≡ accepted)
+Inv-loop sizes lambda row d₀ d-end d = (d-end ≡ sizes .darts) × (d ≤ d-end) × (scan d (atRow8 (sizes .n .0) (sizes .h .0) (each lambda) (each row)) ≡ accepted)
 
 abbrev μ-loop : tie.MeasureT-loop
-μ-loop n darts h lambda row d₀ d = darts - d
+μ-loop sizes lambda row d₀ d-end d = d-end - d
 
 -- the head of the loop, and what number 8 says of its dart
 abbrev head : tie.After-mark-refused Inv-loop μ-loop → tie.At-loop Inv-loop μ-loop
 head c = c .before .before .before .before
 
-here : (c : tie.After-mark-refused Inv-loop μ-loop) (t : Bool) → c .mark-refused .result ≡ t → let a = head c .before .before .before .args in atRow8 (a .n .0) (a .h .0) (each (now (a .lambda))) (each (now (a .row))) (head c .loop .d) ≡ when t (refused 8 (a .h .0) 0 (head c .loop .d))
+here : (c : tie.After-mark-refused Inv-loop μ-loop) (t : Bool) → c .mark-refused .result ≡ t → let a = head c .before .before .before .args in atRow8 (a .sizes .n .0) (a .sizes .h .0) (each (now (a .lambda))) (each (now (a .row))) (head c .loop .d) ≡ when t (refused 8 (a .sizes .h .0) 0 (head c .loop .d))
 unfolding atRow8
-here c t e = let h = head c in ap (λ (t : Bool). when t (refused 8 (h .before .before .before .args .h .0) 0 (h .loop .d))) (rw (c .before .before .lambda-at .ensures, c .before .delta-at .ensures) at (sym (c .mark-refused .ensures) ∙ e))
+here c t e = let h = head c in ap (λ (t : Bool). when t (refused 8 (h .before .before .before .args .sizes .h .0) 0 (h .loop .d))) (rw (c .before .before .lambda-at .ensures, c .before .delta-at .ensures) at (sym (c .mark-refused .ensures) ∙ e))
 
 loop-holds : tie.Need-loop-holds Inv-loop μ-loop
 unfolding scan
-loop-holds c = (zero-le, refl)
+loop-holds c = (refl, zero-le, refl)
 
 cast-at : tie.Need-cast-at Inv-loop μ-loop
 cast-at c = search needs
@@ -44,9 +44,9 @@ mark-refused-requires c κs = search needs
 
 returns : tie.Need-returns Inv-loop μ-loop
 returns c =
-    let h = head (c .before) in
+    let h = head (c .before .before) in
     let a = h .before .before .before .args in
-    sym (scan-first (a .darts) (atRow8 (a .n .0) (a .h .0) (each (now (a .lambda))) (each (now (a .row)))) (h .loop .d) 8 (a .h .0) 0 (h .loop .d) (omega arith) (h .loop .inv .1) (here (c .before) true (c .if1 .taken)))
+    sym (scan-first (a .sizes .darts) (atRow8 (a .sizes .n .0) (a .sizes .h .0) (each (now (a .lambda))) (each (now (a .row)))) (h .loop .d) 8 (a .sizes .h .0) 0 (h .loop .d) (omega arith) (h .loop .inv .2) (here (c .before .before) true (c .before .if1 .taken)))
 
 add-d : tie.Need-add-d Inv-loop μ-loop
 add-d c = search needs
@@ -55,13 +55,13 @@ loop-less : tie.Need-loop-less Inv-loop μ-loop
 loop-less c = search needs
 
 loop-again : tie.Need-loop-again Inv-loop μ-loop
-loop-again c = let l = head (c .before) .loop in (omega arith, scan-more _ (l .d) (l .inv .1) (here (c .before) false (c .if1 .left)))
+loop-again c = let l = head (c .before) .loop in (l .inv .0, omega arith, scan-more _ (l .d) (l .inv .2) (here (c .before) false (c .if1 .left)))
 
 returns-2 : tie.Need-returns-2 Inv-loop μ-loop
 returns-2 c =
     let l = c .before .loop in
-    let z : l .d ≡ c .before .before .before .before .args .darts = omega arith in
-    sym (rw z at (l .inv .1))
+    let z : l .d ≡ c .before .before .before .before .args .sizes .darts = omega arith in
+    sym (rw z at (l .inv .2))
 
 pub first-refused-spec : {M : Type 1} → statement M
 first-refused-spec =

@@ -24,7 +24,7 @@ returns-2 : tie.Need-returns-2
 unfolding atRow8
 returns-2 c =
     let a = c .before .before .before .before .args in
-    sym (scan-all (a .darts) (atRow8 (a .n .0) (a .h .0) (each (now (a .lambda))) (each (now (a .row)))) (λ x l. rw (c .before .any-refused .ensures (c .if1 .left) x (omega arith))))
+    sym (scan-all (a .sizes .darts) (atRow8 (a .sizes .n .0) (a .sizes .h .0) (each (now (a .lambda))) (each (now (a .row)))) (λ x l. rw (c .before .any-refused .ensures (c .if1 .left) x (omega arith))))
 
 pub row-checked-spec : {M : Type 1} → statement M
 row-checked-spec = tie.close (tie.spec any-refused-requires first-refused-requires returns returns-2)
