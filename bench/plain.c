@@ -136,8 +136,8 @@ static bool marks_fit(unsigned n, unsigned h, uint8_t lambda, uint8_t delta)
 }
 
 /* The first dart with marks that don't fit, or darts; again the place is sought only if there is one. A mark is one
- * exactly if it or what is left of it after taking off 9 is below n; where Lambda is h, all of Delta is compared, and one
- * less than n is below n. */
+ * exactly if it is below n, or what is left of it after taking off 9; where Lambda is h, all of Delta is compared, and
+ * one less than n is below n. */
 static unsigned first_unfit(unsigned n, unsigned darts, unsigned h, const uint8_t *lambda, const uint8_t *delta)
 {
     uint8_t top = (uint8_t)h, dimension = (uint8_t)n, highest = 0, most = 0, differ = 0;
@@ -171,7 +171,8 @@ struct kinds {
     uint16_t of[ZG_MOST_DARTS], next[ZG_MOST_DARTS], first[KINDS];
 };
 
-static void set_kinds(unsigned darts, const uint8_t *restrict lambda, const uint8_t *restrict delta, uint16_t *restrict of)
+static void set_kinds(unsigned darts, const uint8_t *restrict lambda, const uint8_t *restrict delta,
+                      uint16_t *restrict of)
 {
     for (unsigned d = 0; d < darts; d++)
         of[d] = (uint16_t)(lambda[d] * MARKS + delta[d]);
@@ -233,7 +234,8 @@ FOR_EACH_N bool kind_fits(unsigned n, size_t darts, const uint16_t *table, const
     return true;
 }
 
-FOR_EACH_N bool kernel_fits_n(unsigned n, size_t darts, unsigned level, const uint16_t *table, const struct kinds *kinds)
+FOR_EACH_N bool kernel_fits_n(unsigned n, size_t darts, unsigned level, const uint16_t *table,
+                              const struct kinds *kinds)
 {
     FOR_KINDS(n, level, kinds, kind)
     {
@@ -309,7 +311,8 @@ static void remove_kernel(unsigned n, size_t darts, unsigned level, uint16_t *ta
 }
 
 /* Clears the entries of the darts gone below a level. No walk and no test reads them, so once is enough. */
-static void clear_gone(unsigned n, unsigned darts, unsigned level, const uint16_t *restrict of, uint16_t *restrict table)
+static void clear_gone(unsigned n, unsigned darts, unsigned level, const uint16_t *restrict of,
+                       uint16_t *restrict table)
 {
     int16_t least = (int16_t)least_kind(level);
     for (unsigned i = 0; i <= n; i++, table += darts)
@@ -492,7 +495,8 @@ bad_question(unsigned n, unsigned darts, unsigned h, size_t rows_len, const uint
     return lambda[dart] < level ? 12 : 0;
 }
 
-__attribute__((noinline)) static zg_refusal refuse_question(unsigned number, unsigned level, unsigned involution, unsigned dart)
+__attribute__((noinline)) static zg_refusal refuse_question(unsigned number, unsigned level, unsigned involution,
+                                                            unsigned dart)
 {
     if (number <= 4)
         return RESULT(zg_refusal, number);
@@ -688,7 +692,8 @@ struct present {
     unsigned size;
 };
 
-/* What an unfolding reads of a dart: 256 times Lambda and 1, and the lower of the two rows between which it is passed. */
+/* What an unfolding reads of a dart: 256 times one more than Lambda, and the lower of the two rows between which it is
+ * passed. */
 static void set_passes(unsigned darts, const uint8_t *restrict lambda, const uint8_t *restrict delta,
                        uint16_t *restrict passes)
 {
@@ -707,15 +712,15 @@ static inline __attribute__((always_inline)) zg_unfolding unfold_rows(unsigned n
 {
     size_t least = (level + 1) << 8, most = 0, size = present->size;
     unsigned total = (n + 1) * present->size;
-    const uint16_t *row[6];
-    for (unsigned i = 0; i <= 5; i++)
+    const uint16_t *row[5] = {0};
+    for (unsigned i = 0; i <= n; i++)
         row[i] = rows + i * darts;
     for (unsigned i = 0; i <= n; i++, table += darts) {
         const uint16_t *own = row[i];
         for (size_t k = 0; k < size; k++) {
             size_t d = present->dart[k], met = own[d], pass;
             if (strays && met >= darts)
-                return RESULT(zg_unfolding, {5, (uint8_t)level, i, (uint16_t)d});
+                return RESULT(zg_unfolding, {5, level, i, d});
             if ((pass = passes[met]) < least) {
                 const uint16_t *by = own;
                 unsigned left = 2 * darts;
@@ -727,12 +732,12 @@ static inline __attribute__((always_inline)) zg_unfolding unfold_rows(unsigned n
                     else if (by == row[low + 1])
                         by = row[low];
                     else
-                        return RESULT(zg_unfolding, {14, (uint8_t)level, (uint8_t)((by - rows) / darts), (uint16_t)met});
+                        return RESULT(zg_unfolding, {14, level, (by - rows) / darts, met});
                     if (left-- == 0)
-                        return RESULT(zg_unfolding, {15, (uint8_t)level, i, (uint16_t)d});
+                        return RESULT(zg_unfolding, {15, level, i, d});
                     met = by[from];
                     if (strays && met >= darts)
-                        return RESULT(zg_unfolding, {5, (uint8_t)level, (uint8_t)((by - rows) / darts), (uint16_t)from});
+                        return RESULT(zg_unfolding, {5, level, (by - rows) / darts, from});
                 } while ((pass = passes[met]) < least);
                 total += 2 * darts - left;
             }
@@ -950,8 +955,8 @@ static uint64_t eight_bytes(const uint8_t *from)
     return bytes;
 }
 
-/* A word of eight darts at a time: a sum that reaches 128 says of each byte whether it is level or more, since no Lambda
- * is above 32, and a product brings the eight signs together. */
+/* A word, by eight darts at a time: a sum that reaches 128 says of each byte whether it is level or more, since no
+ * Lambda is above 32, and a product brings the eight signs together. */
 static uint64_t word_of(const uint8_t *lambda, uint8_t level)
 {
     const uint64_t ones = 0x0101010101010101, together = 0x0102040810204080;
@@ -1106,7 +1111,7 @@ void plain_removable(unsigned n, unsigned darts, const uint16_t *table, unsigned
             reach_cell(n, darts, table, dimension, d, marks, ZG_STAY);
 }
 
-/* Marks the darts that a row leads neither to themselves nor to where another does; absent darts have 65,535 in both. */
+/* Marks the darts that a row leads neither to themselves nor to where another does; absent ones have 65,535 in both. */
 static void mark_where_apart(unsigned darts, const uint16_t *restrict a, const uint16_t *restrict left, uint8_t mark,
                              uint8_t *restrict marks)
 {
@@ -1146,8 +1151,8 @@ static void mark_darts(unsigned n, size_t darts, const uint16_t *table, unsigned
 }
 
 /* One search serves all: a cell is removable exactly if one of its parts has no dart that says otherwise, since
- * a(dimension+1) then takes the part to a part, and the two are the cell. So a part that fits is marked with the one that
- * a(dimension+1) leads to, unless it leads into the same.
+ * a(dimension+1) then takes the part to a part, and the two are the cell. So a part that fits is marked with the one
+ * that a(dimension+1) leads to, unless it leads into the same.
  *
  * What the rows p and q reach is walked along, by the one and the other in turn. What is asked of a dart, and where the
  * third row leads that n = 4 has, is the same for both darts of a step by p, so it is asked of one of the two. */
@@ -1209,7 +1214,7 @@ static void mark_candidates(unsigned n, unsigned darts, const uint16_t *table, u
         mark_parts(4, darts, table, dimension, false, present, marks);
 }
 
-/* Whether a search of a piece meets a dart that is unmarked, or that an earlier search has met: that one ended so too. */
+/* Whether a search of a piece meets a dart that is unmarked, or that an earlier search has met: that ended so too. */
 FOR_EACH_N bool meets_other(unsigned n, const uint16_t *const *row, size_t first, uint16_t *met, uint16_t stamp)
 {
     uint16_t open[ZG_MOST_DARTS];
@@ -1333,8 +1338,8 @@ zg_record plain_take(const uint8_t *bytes, size_t bytes_len, uint16_t *rows, siz
         take_row(rows + i * darts, bytes + 10 + i * (3 + length), darts);
     copy(lambda, bytes + at - 3 - 2 * darts, darts);
     copy(delta, bytes + at - darts, darts);
-    zg_refusal checked = plain_check((uint8_t)n, (uint16_t)darts, (uint8_t)h, rows, entries, lambda, darts, delta, darts,
-                                     table, entries);
+    zg_refusal checked = plain_check((uint8_t)n, (uint16_t)darts, (uint8_t)h, rows, entries, lambda, darts, delta,
+                                     darts, table, entries);
     if (checked.number)
         return RESULT(zg_record, checked);
     return RESULT(zg_record, .n = (uint8_t)n, .h = (uint8_t)h, .darts = (uint16_t)darts);
@@ -1627,9 +1632,9 @@ zg_refusal plain_import(uint16_t m, const uint16_t *edges, size_t edges_len, con
     return RESULT(zg_refusal, 0);
 }
 
-/* Whether the rows are valid and two rows yield them, all at once. a_2 is as it must be, and a_0 takes pairs to pairs, so
- * the two commute, and that the even darts come back by a_0 is enough. a_1 takes odd darts to even ones; where all odd
- * ones come back by it, the even ones are all met, and come back too. */
+/* Whether the rows are valid and two rows yield them, all at once. a_2 is as it must be, and a_0 takes pairs to pairs,
+ * so the two commute, and that the even darts come back by a_0 is enough. a_1 takes odd darts to even ones; where all
+ * odd ones come back by it, the even ones are all met, and come back too. */
 static bool yields(unsigned m, const uint16_t *rows)
 {
     const uint16_t *a0 = rows, *a1 = rows + 2 * m, *a2 = rows + 4 * m;
@@ -1694,9 +1699,9 @@ static void name_line(const uint16_t *a0, const uint16_t *a1, const uint8_t *pas
     }
 }
 
-/* Names all darts that one reaches and that have no name yet. What a_0 and a_1 reach is walked along, by the one and the
- * other in turn. The other rows commute with a_0, and lead from both darts of a step by a_0 to one such walk, so they are
- * followed from one of the two. A walk whose way back passes a free end takes its darts twice. */
+/* Names all darts that one reaches and that have no name yet. What a_0 and a_1 reach is walked along, by the one and
+ * the other in turn. The other rows commute with a_0, and lead from both darts of a step by a_0 to one such walk, so
+ * they are followed from one of the two. A walk whose way back passes a free end takes its darts twice. */
 FOR_EACH_N void name_region(unsigned n, size_t darts, const uint16_t *rows, const uint8_t *passes, unsigned start,
                             uint16_t *names)
 {
