@@ -806,30 +806,33 @@ zg_unfolding plain_unfold(uint8_t n, uint16_t darts, uint8_t h, const uint16_t *
 
 /* Takes a kernel out of the table and carries along what each link reads and since which level it stands: a link that
  * leads into the kernel reads what those read that it is made of. It reads the same from both ends. The darts of the
- * kernel read nothing any more. */
-static void carry_kernel(unsigned n, unsigned darts, unsigned level, uint16_t *table, const uint16_t *mark,
-                         const uint16_t *kernel, unsigned size, const struct way *ways, uint16_t *reads, uint8_t *stands)
+ * kernel read nothing any more, and their entries are cleared, since the block stays. */
+static void carry_kernel(unsigned n, size_t darts, unsigned level, uint16_t *table, const struct kinds *kinds,
+                         uint16_t *reads, uint8_t *stands)
 {
-    for (unsigned k = 0; k < size; k++) {
-        unsigned met = kernel[k], own = mark[met], row = ways[own % WAYS].own;
+    FOR_KINDS(n, level, kinds, kind)
+    {
+        size_t row = dimension_of(kind) * darts;
         uint16_t *a = table + row;
-        unsigned survivor = a[met];
-        if (same_kernel(mark[survivor], own) || a[survivor] != met)
-            continue;
-        unsigned sum = reads[row + survivor];
-        do {
-            unsigned other = ways[mark[met] % WAYS].other, past = table[other + met];
-            sum += reads[other + met] + reads[row + past];
-            met = a[past];
-        } while (same_kernel(mark[met], own));
-        a[survivor] = (uint16_t)met;
-        a[met] = (uint16_t)survivor;
-        reads[row + survivor] = reads[row + met] = (uint16_t)sum;
-        stands[row + survivor] = stands[row + met] = (uint8_t)(level + 1);
+        for (size_t d = kinds->first[kind]; d != ZG_ABSENT; d = kinds->next[d]) {
+            size_t survivor = a[d], met = d;
+            if (same_kernel(kinds->of[survivor], kind) || a[survivor] != (uint16_t)d)
+                continue;
+            unsigned sum = reads[row + survivor];
+            do {
+                size_t other = contracts(kinds->of[met]) ? row - darts : row + darts, past = table[other + met];
+                sum += reads[other + met] + reads[row + past];
+                met = a[past];
+            } while (same_kernel(kinds->of[met], kind));
+            a[survivor] = (uint16_t)met;
+            a[met] = (uint16_t)survivor;
+            reads[row + survivor] = reads[row + met] = (uint16_t)sum;
+            stands[row + survivor] = stands[row + met] = (uint8_t)(level + 1);
+        }
     }
-    for (unsigned i = 0; i <= n; i++)
-        for (unsigned k = 0; k < size; k++) {
-            unsigned at = i * darts + kernel[k];
+    FOR_KINDS(n, level, kinds, kind)
+    for (size_t d = kinds->first[kind]; d != ZG_ABSENT; d = kinds->next[d])
+        for (size_t at = d; at < (n + 1) * darts; at += darts) {
             table[at] = ZG_ABSENT;
             reads[at] = 0;
             stands[at] = 0;
@@ -853,29 +856,22 @@ static uint8_t latest_of(const uint8_t *stands, size_t len)
 }
 
 /* Every level out of the one below, in its own block. */
-static zg_refusal climb_blocks(unsigned n, unsigned darts, unsigned h, const uint16_t *mark, uint16_t *tables,
+static zg_refusal climb_blocks(unsigned n, unsigned darts, unsigned h, const struct kinds *kinds, uint16_t *tables,
                                uint32_t *counts, uint8_t *since)
 {
-    uint16_t order[ZG_MOST_DARTS], reads[ZG_MOST_ENTRIES];
+    uint16_t reads[ZG_MOST_ENTRIES];
     uint8_t stands[ZG_MOST_ENTRIES];
-    unsigned start[35];
     size_t len = (size_t)(n + 1) * darts;
-    struct way ways[WAYS];
-    list_ways(n, darts, ways);
-    sort_by_kernel(darts, mark, order, start);
     for (size_t k = 0; k < len; k++)
         reads[k] = 1;
     memset(stands, 0, len);
     counts[0] = (uint32_t)len;
     for (unsigned l = 0; l < h; l++) {
         uint16_t *table = tables + l * len;
-        const uint16_t *kernel = order + start[l];
-        unsigned size = start[l + 1] - start[l];
-        zg_refusal r = check_kernel(n, darts, l, table, mark, kernel, size, ways);
-        if (r.number)
-            return r;
-        memcpy(table + len, table, len * sizeof *table);
-        carry_kernel(n, darts, l, table + len, mark, kernel, size, ways, reads, stands);
+        if (UNLIKELY(!kernel_fits(n, darts, l, table, kinds)))
+            return find_unfit(n, darts, l, table, kinds->of);
+        copy_rows(n, darts, table + len, table);
+        carry_kernel(n, darts, l, table + len, kinds, reads, stands);
         counts[l + 1] = sum_reads(reads, len);
         since[l + 1] = latest_of(stands, len);
     }
@@ -901,12 +897,11 @@ zg_refusal plain_unfold_all(uint8_t n, uint16_t darts, uint8_t h, const uint16_t
     unsigned unfit = first_unfit(n, darts, h, lambda, delta);
     if (unfit < darts)
         return RESULT(zg_refusal, 8, 0, 0, unfit);
-    uint16_t mark[ZG_MOST_DARTS];
+    struct kinds kinds;
     uint32_t all_counts[ZG_LEVELS] = {0};
     uint8_t all_since[ZG_LEVELS] = {0};
-    memcpy(tables, rows, len * sizeof *rows);
-    join_marks(darts, lambda, delta, mark);
-    r = climb_blocks(n, darts, h, mark, tables, all_counts, all_since);
+    start_climb(n, darts, rows, lambda, delta, &kinds, tables);
+    r = climb_blocks(n, darts, h, &kinds, tables, all_counts, all_since);
     if (r.number)
         return r;
     memcpy(counts, all_counts, sizeof all_counts);
