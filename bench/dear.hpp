@@ -250,6 +250,10 @@ inline Case lend(job what, const Pyramid& p, unsigned level)
     c.words.assign(64, 0);
     c.cells.assign(165, 0);
     c.sums.assign(33, 0);
+    if (what == UNFOLD_ALL)
+        c.tables.assign((p.h + 1) * p.rows.size(), 0);
+    c.counts.assign(33, 0);
+    c.since.assign(33, 0);
     c.bytes = record_of(c, false, starts); // to be taken, or written over
     return c;
 }

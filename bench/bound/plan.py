@@ -16,6 +16,7 @@ JOBS = {
     "zg_read": "read",
     "zg_read_by_levels": "bylevels",
     "zg_unfold": "unfold",
+    "zg_unfold_all": "unfold_all",
     "zg_row": "row",
     "zg_survivors": "survivors",
     "zg_mark_cells": "mark",

@@ -111,7 +111,7 @@ void run_version()
 // ---------------------------------------------------------------- every job on one pyramid
 
 const job whole_pyramid[] = {CHECK_BASE, CHECK,      MARKS,  UNFOLD,  ROW,  SURVIVORS, TAKE,
-                             WRITE,      DECIMATION, CENSUS, REGIONS, JOIN, REBASE};
+                             WRITE,      DECIMATION, CENSUS, REGIONS, JOIN, REBASE, UNFOLD_ALL};
 
 // Whether a reading, of a dart on the level, goes through another that is gone.
 bool passes(const Pyramid& p, const Case& asked)
