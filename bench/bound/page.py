@@ -98,6 +98,7 @@ ENTRIES_TEXT = """
 Loops over all darts and rows read each entry once, as their source says.
 All others go along the strings of kernels, along walks, or search orbits; crates/turns defines what they read and how often they turn, and adds it up.
 That the loops are those of the definitions is read in the code: no function answers how often it turns.
+Those of marking, joining, starting again and region names are of what the loops are lent: a valid level, or a base and marks that passed 1 to 8, and kernels that are accepted where a new base climbs; that of the census is of accepted pyramids.
 """
 
 ENTRIES_BEHIND = """
@@ -325,7 +326,7 @@ ENTRIES = [
     ("zg_add", "(n+8)g, with g of the mark row too", "`add-reads` in Adds.antt"),
     ("zg_read", "1 + 2N; where a neighbour is found, the count answered", "`walk-entries`, `found-entries` in Walks.antt"),
     ("zg_unfold", "(n+1)N(1 + 2N); of accepted pyramids as above", "`level-entries` in Walks.antt"),
-    ("zg_unfold_all", "a check's, and in the sums four for each turn, at most g turns in all", "`check-reads` in Entries.antt, `pyramid-turns` in crates/facts/proofs/Turns.antt"),
+    ("zg_unfold_all", "no theorem adds them up: its tests read as a check's, and its sums turn g times at most, four entries a turn as seen in the code", "`check-reads` in Entries.antt, `pyramid-turns` in crates/facts/proofs/Turns.antt"),
     ("zg_read_by_levels", "1 + 2N; at most l calls above level 0 for each entry and one more; of accepted pyramids the direct walk's count", "`levels-work`, `calls-above`, `accepted-work` in ByLevels.antt"),
     ("zg_mark_cells", "3(n+1)N in its searches", "`marking-queues` in Searches.antt"),
     ("zg_census", "2(n+8)g + n(n+1)s", "`census-reads` in Jobs.antt"),
