@@ -86,7 +86,7 @@ extern "C" {
  * are lent to write.
  *
  * Nothing is allocated and nothing is kept between calls, so calls may run at once on several threads where none writes
- * what another is lent. zg_unfold_all takes the most stack, about 89 KiB; no other function takes more than 31 KiB.
+ * what another is lent. zg_unfold_all takes the most stack, about 89 KiB; no other function takes more than 35 KiB.
  *
  * What is returned
  *

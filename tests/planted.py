@@ -12,7 +12,7 @@ from pathlib import Path
 
 ROOT = Path(__file__).resolve().parent.parent
 C, REGIONS, RUST = "include/zompelgors.h", "include/zompelgors_regions.h", "rust/src/raw.rs"
-STRUCT, SOURCE = "include/zompelgors_pyramid.h", "crates/zompelgors/src/lib.rt"
+STRUCT, SOURCE, ANSWERS = "include/zompelgors_pyramid.h", "crates/zompelgors/src/lib.rt", "crates/interface/src/lib.rt"
 # (file, the function or struct in which it is planted, what stands there, what is put there)
 FAULTS = [
     (C, "zg_refusal zg_check(", "const uint8_t *lambda", "uint8_t *lambda"),
@@ -42,7 +42,7 @@ FAULTS = [
     (RUST, "pub fn zg_export(", "zg_export", "zg_exports"),
     (SOURCE, "fn zg_survivors(", "&mut [u64]", "&mut [u32]"),
     (SOURCE, "fn zg_check_base(", "rows: &[u16]", "rows: &mut [u16]"),
-    (SOURCE, "pub struct ZgLink", "pub since: u8", "pub since: u16"),
+    (ANSWERS, "pub struct ZgLink", "pub since: u8", "pub since: u16"),
 ]
 
 

@@ -322,17 +322,17 @@ def archives(tool):
 
 
 ENTRIES = [
-    ("a check; taking, writing, decimation, a census, starting again and regions begin or end with one", "(n+8)g", "`check-reads` in Entries.antt"),
-    ("zg_add", "(n+8)g, with g of the mark row too", "`add-reads` in Adds.antt"),
+    ("a check; taking, writing, decimation, a census, starting again and regions begin or end with one", "(2n+8)g; (n+8)g where no kernel is refused", "`check-reads`, `check-accepted` in Entries.antt"),
+    ("zg_add", "(2n+8)g, with g of the mark row too", "`add-reads` in Adds.antt"),
     ("zg_read", "1 + 2N; where a neighbour is found, the count answered", "`walk-entries`, `found-entries` in Walks.antt"),
     ("zg_unfold", "(n+1)N(1 + 2N); of accepted pyramids as above", "`level-entries` in Walks.antt"),
     ("zg_unfold_all", "no theorem adds them up: its tests read as a check's, and its sums turn g times at most, four entries a turn as seen in the code", "`check-reads` in Entries.antt, `pyramid-turns` in crates/facts/proofs/Turns.antt"),
     ("zg_read_by_levels", "1 + 2N; at most l calls above level 0 for each entry and one more; of accepted pyramids the direct walk's count", "`levels-work`, `calls-above`, `accepted-work` in ByLevels.antt"),
     ("zg_mark_cells", "3(n+1)N in its searches", "`marking-queues` in Searches.antt"),
-    ("zg_census", "2(n+8)g + n(n+1)s", "`census-reads` in Jobs.antt"),
-    ("zg_join", "(2n+8)g; refused (3n+16)g", "`join-reads`, `join-reads-refused` in Jobs.antt"),
-    ("zg_rebase", "(n+12)g", "`rebase-reads` in Jobs.antt"),
-    ("zg_regions", "(n+8)g + (n+1)N", "`regions-reads` in Jobs.antt"),
+    ("zg_census", "2(2n+8)g + n(n+1)s", "`census-reads` in Jobs.antt"),
+    ("zg_join", "(3n+8)g; refused (5n+16)g", "`join-reads`, `join-reads-refused` in Jobs.antt"),
+    ("zg_rebase", "(2n+12)g", "`rebase-reads` in Jobs.antt"),
+    ("zg_regions", "(2n+8)g + (n+1)N", "`regions-reads` in Jobs.antt"),
 ]
 
 

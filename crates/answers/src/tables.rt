@@ -13,12 +13,14 @@ ghost use Rattle.maps.specs.Explicit.{present};
 ghost use Rattle.maps.specs.Folded.{survivors};
 ghost use Rattle.answers.specs.Rows.{Corner};
 
-// The entry of dart d in row i.
+// The entry of dart d in row i. The part from row i on is named first: in a loop over darts its start is then computed once.
 pub fn at(darts: u16, table: &[u16], i: Dim, d: u16) -> u16
     requires { ⌜ (i .0 * darts + d < length (now table)) × (length (now table) ≤ 20480) ⌝ }
     ensures { λ r. ⌜ r ≡ entry darts (now (table .entry)) (i .0) d ⌝ }
 {
-    table[i.0 as usize * darts as usize + d as usize]
+    let start = i.0 as usize * darts as usize;
+    let rows = &table[start..];
+    rows[d as usize]
 }
 
 // Is dart d present?
@@ -69,16 +71,45 @@ pub fn in_kernel(lambda: Level, level: Level) -> bool
     lambda.0 == level.0
 }
 
-// How many darts are on a level.
+// How many of the first 128 darts are on a level: a byte holds the count, so the compiler counts 16 darts at a time.
+fn block_on(part: &[u8], level: Level) -> u8
+    requires { ⌜ 128 ≤ length (now part) ⌝ }
+    ensures { λ r. ⌜ r ≡ survivors 128 (each (now (part .entry))) (level .0) ⌝ }
+{
+    let mut count: u8 = 0;
+    for d in 0..128usize {
+        if level.0 <= part[d] {
+            count = count + 1;
+        }
+    }
+    count
+}
+
+// How many darts are on a level, one after the other.
+fn rest_on(part: &[u8], level: Level) -> u16
+    requires { ⌜ length (now part) ≤ 4096 ⌝ }
+    ensures { λ r. ⌜ r ≡ survivors (length (now (part .entry))) (each (now (part .entry))) (level .0) ⌝ }
+{
+    let mut count: u16 = 0;
+    for d in 0..part.len() {
+        if !is_gone(lambda_at(part, d), level) {
+            count = count + 1;
+        }
+    }
+    count
+}
+
+// How many darts are on a level: in blocks of 128, and then the rest.
 pub fn survivors_on(lambda: &[u8], level: Level) -> u16
     requires { ⌜ length (now lambda) ≤ 4096 ⌝ }
     ensures { λ r. ⌜ r ≡ survivors (length (now (lambda .entry))) (each (now (lambda .entry))) (level .0) ⌝ }
 {
     let mut count: u16 = 0;
-    for d in 0..lambda.len() {
-        if !is_gone(lambda_at(lambda, d), level) {
-            count = count + 1;
-        }
+    let blocks = lambda.len() / 128;
+    for b in 0..blocks {
+        let start = 128 * b;
+        count = count + block_on(&lambda[start..], level) as u16;
     }
-    count
+    let rest = 128 * blocks;
+    count + rest_on(&lambda[rest..], level)
 }

@@ -1,13 +1,13 @@
 -- Where the rows of a table lie, where 5, 6 and 7 are first refused, and what a 5 that is not refused tells of the entries. Assumes nothing.
-use mathlib.Core.Path.{_≡_, sym, subst}
+use mathlib.Core.Path.{_≡_, refl, sym, subst}
 use mathlib.Core.Bool.{Bool, true, false, _&&_}
 use mathlib.Core.List.{List}
-use Prim.Native.Nat.{ℕ, suc, _+_, _*_, _≤_, _<_}
+use Prim.Native.Nat.{ℕ, suc, _+_, _*_, _≤_, _<_, zero-le}
 use native.Mathlib.Nat.{mul-le-mul-right}
 use native.Mathlib.Omega.{arith}
 use lib.ListN.{length, getD}
-use lib.Dec.{ltb}
-use borrow.Author.Tests.{ltb-true, lt-ltb, le-ltb, eqb-true, not-false}
+use lib.Dec.{eqb, ltb}
+use borrow.Author.Tests.{ltb-true, lt-ltb, le-ltb, eqb-true, ne-eqb, not-false}
 use Rattle.maps.specs.Verdict.{Verdict, accepted, refused, when, scan}
 use Rattle.maps.specs.Sizes.{hasLength}
 use Rattle.maps.specs.Table.{entry}
@@ -22,9 +22,11 @@ use Rattle.bases.specs.declared.Test.the-variants.{Strays, NotTwice}
 use Rattle.bases.specs.InTable.{Row, presentIf, straysIn, notTwiceIn, notCommutingIn, check5In, check7In}
 use Rattle.bases.specs.Places.{numberOf, dueAt, soughtIn}
 
--- a table of the exact length
-pub lent-rows : (n N : ℕ) (table : List ℕ) → lentOf n N 0 (hasLength table (suc n * N)) ≡ accepted → Rows n N table
-lent-rows n N table e = let r = lent-sized n N 0 (hasLength table (suc n * N)) e in record { dimension = r .0 .dimension; darts = r .0 .darts; exact = eqb-true (length table) (suc n * N) (r .1) }
+-- a table of the exact length, of a map of one dimension or more
+pub lent-rows : (n N : ℕ) (table : List ℕ) → lentOf n N 0 (hasLength table (suc n * N)) ≡ accepted → Rows n N table × (0 < n)
+lent-rows n N table e =
+    let r = lent-sized n N 0 (hasLength table (suc n * N)) e in
+    (record { dimension = r .0 .dimension; darts = r .0 .darts; exact = eqb-true (length table) (suc n * N) (r .1) }, r .0 .one-dimension)
 
 -- each of its rows lies in it
 pub rows-row : (n N i : ℕ) (table : List ℕ) → Rows n N table → i ≤ n → Row N table i
@@ -65,16 +67,29 @@ unfolding at5 at6 check5 check6
 sought-first Strays explicit n N table = rows-first 5 N (λ i. i) (straysIn explicit N table) (suc n)
 sought-first NotTwice explicit n N table = rows-first 6 N (λ i. i) (notTwiceIn explicit N table) (suc n)
 
--- where every entry of a base is a dart, 5 is not refused
-pub base-none : (explicit : Bool) (n N : ℕ) (table : List ℕ) → explicit ≡ false → length table ≡ suc n * N → ((k : ℕ) → k < length table → getD table k 0 < N) → check5In explicit n N table ≡ accepted
-base-none explicit n N table base long h =
+-- where every entry is a dart, every dart is present
+pub entry-dart : (n N : ℕ) (table : List ℕ) → Rows n N table → ((k : ℕ) → k < length table → getD table k 0 < N) → (i d : ℕ) → i ≤ n → d < N → entry N table i d < N
+entry-dart n N table r h i d li ld = h (i * N + d) (subst (λ m. i * N + d < m) (sym (r .exact)) (in-table n N i d li ld))
+
+dart-present : (explicit : Bool) (n N : ℕ) (table : List ℕ) → Rows n N table → ((k : ℕ) → k < length table → getD table k 0 < N) → (d : ℕ) → d < N → presentIf explicit N table d ≡ true
+dart-present true n N table r h d ld = rw (ne-eqb (entry N table 0 d) 65535 (λ e. let l = entry-dart n N table r h 0 d zero-le ld in omega (arith, r .darts)))
+dart-present false n N table r h d ld = refl
+
+-- and 5 is not refused
+pub base-none : (explicit : Bool) (n N : ℕ) (table : List ℕ) → Rows n N table → ((k : ℕ) → k < length table → getD table k 0 < N) → check5In explicit n N table ≡ accepted
+base-none explicit n N table r h =
     sought-none Strays explicit n N table (λ i li d ld.
-    rw (base, lt-ltb (entry N table i d) N (h (i * N + d) (subst (λ m. i * N + d < m) (sym long) (in-table n N i d (omega arith) ld)))))
+    let l = entry-dart n N table r h i d (omega arith) ld in
+    rw (dart-present explicit n N table r h d ld, lt-ltb (entry N table i d) N l, dart-present explicit n N table r h (entry N table i d) l))
 
 module _ (explicit : Bool) (n N : ℕ) (table : List ℕ) where
   -- pairs with j < i+2 are never refused
   pub near : (i j d : ℕ) → j < i + 2 → notCommutingIn explicit N table i j d ≡ false
   near i j d l = and-false (presentIf explicit N table d) _ (λ p. rw (le-ltb (i + 1) j (omega arith)))
+
+  -- nor is a pair that commutes
+  pub commuting : (i j d : ℕ) → eqb (entry N table j (entry N table i d)) (entry N table i (entry N table j d)) ≡ true → notCommutingIn explicit N table i j d ≡ false
+  commuting i j d e = and-false (presentIf explicit N table d) _ (λ p. and-false (ltb (i + 1) j) _ (λ q. rw e))
 
   -- 7 of one i
   abbrev pairs : ℕ → Verdict

@@ -1,2 +1,3 @@
 pub mod InTable
 pub mod Places
+pub mod Valid

@@ -6,7 +6,7 @@ use answers::Level;
 use answers::Refusal;
 use answers::Sizes;
 ghost use mathlib.Core.Path.{_≡_};
-ghost use mathlib.Core.Bool.{true};
+ghost use mathlib.Core.Bool.{true, false};
 ghost use Prim.Native.Nat.{ℕ, _+_, _<_, _≤_};
 ghost use lib.ListN.{length, getD};
 ghost use Rattle.maps.specs.Verdict.{accepted};
@@ -16,6 +16,7 @@ ghost use Rattle.answers.specs.Numbers.{verdictOf};
 ghost use Rattle.answers.specs.Rows.{Rows};
 ghost use Rattle.bases.specs.InTable.{Row, presentIf, Leads, Crossing, straysIn, notTwiceIn, notCommutingIn, check5In, check7In, checkMapIn, checkIn};
 ghost use Rattle.bases.specs.Places.{refusedAt, numberOf, dueAt, soughtIn};
+ghost use Rattle.bases.specs.Valid.{Led, ValidAt, Kept, AllLed, AllValid, AllKept};
 
 // "The first place found is the one reported": its row and dart.
 enum Place {
@@ -154,11 +155,146 @@ fn number7(explicit: bool, table: &[u16], n: Dim, darts: u16) -> Place
     found
 }
 
-// Numbers 5, 6 and 7, in this order, of a table of the exact length.
-fn map_refused(explicit: bool, table: &[u16], n: Dim, darts: u16) -> Check
+// Is neither 6 nor 7 due at row i of dart d, which is present? A no promises nothing, here and up to `map_valid`: the place is then sought.
+fn row_valid(n: Dim, darts: u16, table: &[u16], i: Dim, d: u16) -> bool
+    requires { ⌜ Led (n .0) darts (now table) d × (i .0 ≤ n .0) ⌝ }
+    ensures { λ r. ⌜ (r ≡ true → ValidAt (n .0) darts (now (table .entry)) (i .0) d) ⌝ }
+{
+    let e = answers::at(darts, table, i, d);
+    if answers::at(darts, table, i, e) != d {
+        return false;
+    }
+    for j in i.0 + 2..n.0 + 1 {
+        if !answers::commute(darts, table, i, Dim(j), d) {
+            return false;
+        }
+    }
+    true
+}
+
+// At no row of dart d?
+fn dart_valid(n: Dim, darts: u16, table: &[u16], d: u16) -> bool
+    requires { ⌜ Led (n .0) darts (now table) d ⌝ }
+    ensures { λ r. ⌜ (r ≡ true → (i : ℕ) → i ≤ n .0 → ValidAt (n .0) darts (now (table .entry)) i d) ⌝ }
+{
+    for i in 0..n.0 + 1 {
+        if !row_valid(n, darts, table, Dim(i), d) {
+            return false;
+        }
+    }
+    true
+}
+
+// At no dart present? Dart by dart, so that its neighbours are read once for all its tests.
+fn darts_valid(explicit: bool, n: Dim, darts: u16, table: &[u16]) -> bool
+    requires { ⌜ Rows (n .0) darts (now table) × AllLed explicit (n .0) darts (now table) ⌝ }
+    ensures { λ r. ⌜ (r ≡ true → AllValid explicit (n .0) darts (now (table .entry))) ⌝ }
+{
+    for d in 0..darts {
+        if there(explicit, table, darts, d) {
+            if !dart_valid(n, darts, table, d) {
+                return false;
+            }
+        }
+    }
+    true
+}
+
+// The same of a base, with n as a number that the compiler knows: it then takes all rows of a dart without a loop.
+fn base_valid(n: Dim, darts: u16, table: &[u16]) -> bool
+    requires { ⌜ Rows (n .0) darts (now table) × AllLed false (n .0) darts (now table) × (0 < n .0) ⌝ }
+    ensures { λ r. ⌜ (r ≡ true → AllValid false (n .0) darts (now (table .entry))) ⌝ }
+{
+    if n.0 == 1 {
+        return darts_valid(false, Dim(1), darts, table);
+    }
+    if n.0 == 2 {
+        return darts_valid(false, Dim(2), darts, table);
+    }
+    if n.0 == 3 {
+        return darts_valid(false, Dim(3), darts, table);
+    }
+    darts_valid(false, Dim(4), darts, table)
+}
+
+// The same of an explicit level. Apart, so that the compiler knows too whether darts may be absent.
+fn level_valid(n: Dim, darts: u16, table: &[u16]) -> bool
+    requires { ⌜ Rows (n .0) darts (now table) × AllLed true (n .0) darts (now table) × (0 < n .0) ⌝ }
+    ensures { λ r. ⌜ (r ≡ true → AllValid true (n .0) darts (now (table .entry))) ⌝ }
+{
+    if n.0 == 1 {
+        return darts_valid(true, Dim(1), darts, table);
+    }
+    if n.0 == 2 {
+        return darts_valid(true, Dim(2), darts, table);
+    }
+    if n.0 == 3 {
+        return darts_valid(true, Dim(3), darts, table);
+    }
+    darts_valid(true, Dim(4), darts, table)
+}
+
+// Is the entry of dart d in row i a dart where d is present, and 65,535 where it is absent?
+fn entry_kept(darts: u16, table: &[u16], i: Dim, d: u16) -> bool
+    requires { ⌜ Row darts (now table) 0 × Row darts (now table) (i .0) × (d < darts) ⌝ }
+    ensures { λ r. ⌜ (r ≡ true → Kept darts (now (table .entry)) (i .0) d) ⌝ }
+{
+    let e = answers::at(darts, table, i, d);
+    if answers::there(darts, table, d) {
+        return e < darts;
+    }
+    e == ABSENT
+}
+
+// Each entry of row i? The loop has no exit and no branch, so that the compiler may take many entries at once.
+fn row_kept(darts: u16, table: &[u16], i: Dim) -> bool
+    requires { ⌜ Row darts (now table) 0 × Row darts (now table) (i .0) ⌝ }
+    ensures { λ r. ⌜ (r ≡ true → (d : ℕ) → d < darts → Kept darts (now (table .entry)) (i .0) d) ⌝ }
+{
+    let mut kept = true;
+    for d in 0..darts {
+        kept = kept & entry_kept(darts, table, i, d);
+    }
+    kept
+}
+
+// Each entry?
+fn rows_kept(n: Dim, darts: u16, table: &[u16]) -> bool
     requires { ⌜ Rows (n .0) darts (now table) ⌝ }
+    ensures { λ r. ⌜ (r ≡ true → AllKept (n .0) darts (now (table .entry))) ⌝ }
+{
+    for i in 0..n.0 + 1 {
+        if !row_kept(darts, table, Dim(i)) {
+            return false;
+        }
+    }
+    true
+}
+
+// Is none of 5, 6 and 7 due? Where 6 is not, an entry kept leads to a dart present, since that dart leads back.
+fn map_valid(explicit: bool, n: Dim, darts: u16, table: &[u16]) -> bool
+    requires { ⌜ Rows (n .0) darts (now table) × (0 < n .0) ⌝ }
+    ensures { λ r. ⌜ (r ≡ true → checkMapIn explicit (n .0) darts (now (table .entry)) ≡ accepted) ⌝ }
+{
+    if largest(table) < darts {
+        return base_valid(n, darts, table);
+    }
+    if explicit {
+        if rows_kept(n, darts, table) {
+            return level_valid(n, darts, table);
+        }
+    }
+    false
+}
+
+// Numbers 5, 6 and 7, in this order, of a table of the exact length; the place is sought only if there is one.
+fn map_refused(explicit: bool, table: &[u16], n: Dim, darts: u16) -> Check
+    requires { ⌜ Rows (n .0) darts (now table) × (0 < n .0) ⌝ }
     ensures { λ r. ⌜ verdictOf r ≡ checkMapIn explicit (n .0) darts (now (table .entry)) ⌝ }
 {
+    if map_valid(explicit, n, darts, table) {
+        return Check::Accepted;
+    }
     if let Place::At(i, d) = first_stray(explicit, table, n, darts) {
         return Check::Refused(Refusal::Strays(Level(0), i, d));
     }

@@ -14,8 +14,8 @@ use Rattle.maps.specs.Kernel.{Kernel}
 use Rattle.maps.specs.Table.{entry, each}
 use Rattle.maps.specs.Check.{checkKernel}
 use Rattle.maps.specs.Explicit.{present, There}
-use Rattle.maps.specs.Folded.{levelTable, ofParts}
-use Rattle.maps.specs.CheckPyramid.{checkLent, checkLeaves}
+use Rattle.maps.specs.Folded.{Folded}
+use Rattle.maps.specs.CheckPyramid.{checkLent, checkLeaves, tableAt}
 use Rattle.maps.specs.AddLevel.{addLent}
 use Rattle.maps.specs.MarkCells.{Marked, CellsMarked, markLent, MarkLeaves}
 use Rattle.laws.proofs.Marks.{is-removal, stay-none, removed-rows}
@@ -72,17 +72,20 @@ job-kernel n N table δ found out e left =
     let below = accepted-level n N table δ found e .1 in
     (marked-kernel n N table δ out marked level below, marked-accepted n N table δ out marked level below)
 
--- what marking marks on the table that check left, add accepts, with any lent table of the exact length
-pub marked-added : (n N h : ℕ) (rows lambda delta table : List ℕ) → checkLent (ofParts n N h rows lambda delta) table ≡ accepted → h < 32 → (δ : ℕ) (found out table′ : List ℕ)
-    → markLent n N (checkLeaves (ofParts n N h rows lambda delta) table) δ found ≡ accepted → MarkLeaves n N (checkLeaves (ofParts n N h rows lambda delta) table) δ found (markLent n N (checkLeaves (ofParts n N h rows lambda delta) table) δ found) out
-    → length table′ ≡ suc n * N → addLent (ofParts n N h rows lambda delta) out table′ ≡ accepted
-marked-added n N h rows lambda delta table c room δ found out table′ e left as-long =
-    let T = levelTable (entry N rows) n N h (each lambda) (each delta) h in
-    let t = accepted-table (ofParts n N h rows lambda delta) table c in
-    let e′ : markLent n N T δ found ≡ accepted = rw t at e in
-    let marked : CellsMarked n N T δ out = rw (t, e′) at left in
-    let level = accepted-level n N T δ found e′ .0 in
-    let below = accepted-level n N T δ found e′ .1 in
-    top-row-added (ofParts n N h rows lambda delta) table c out table′ as-long room (marked .long) (λ d ld q. marked-only n N T δ out marked level below d ld q .0)
-    (λ d ld q. elim (marked .mark d ld) [ inl w ↦ absurd (true≢false (sym (ap (isMark n) (w .2) ∙ is-removal n δ below) ∙ q)) | inr w ↦ w .1 ])
-    (marked-accepted n N T δ out marked level below h)
+module _ (P : Folded) (table : List ℕ) where
+  open Folded P using (n, N, h)
+
+  -- what marking marks on the table that check left, add accepts, with any lent table of the exact length
+  pub marked-added : checkLent P table ≡ accepted → h < 32 → (δ : ℕ) (found out table′ : List ℕ)
+      → markLent n N (checkLeaves P table) δ found ≡ accepted → MarkLeaves n N (checkLeaves P table) δ found (markLent n N (checkLeaves P table) δ found) out
+      → length table′ ≡ suc n * N → addLent P out table′ ≡ accepted
+  marked-added c room δ found out table′ e left as-long =
+      let T = tableAt P h in
+      let t = accepted-table P table c in
+      let e′ : markLent n N T δ found ≡ accepted = rw t at e in
+      let marked : CellsMarked n N T δ out = rw (t, e′) at left in
+      let level = accepted-level n N T δ found e′ .0 in
+      let below = accepted-level n N T δ found e′ .1 in
+      top-row-added P table c out table′ as-long room (marked .long) (λ d ld q. marked-only n N T δ out marked level below d ld q .0)
+      (λ d ld q. elim (marked .mark d ld) [ inl w ↦ absurd (true≢false (sym (ap (isMark n) (w .2) ∙ is-removal n δ below) ∙ q)) | inr w ↦ w .1 ])
+      (marked-accepted n N T δ out marked level below h)

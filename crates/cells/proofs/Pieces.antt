@@ -16,8 +16,8 @@ use Rattle.maps.specs.Parts.{Piece}
 use Rattle.maps.specs.Mark.{isMark, stay}
 use Rattle.maps.specs.Table.{entry, each}
 use Rattle.maps.specs.Explicit.{present}
-use Rattle.maps.specs.Folded.{On, survives, marks, addΛ, level, levelTable, ofParts}
-use Rattle.maps.specs.CheckPyramid.{checkLent, checkLeaves}
+use Rattle.maps.specs.Folded.{On, survives, marks, addΛ, level, Folded, base, lambdaOf, deltaOf}
+use Rattle.maps.specs.CheckPyramid.{checkLent, checkLeaves, tableAt}
 use Rattle.maps.specs.AddLevel.{addLambda}
 use Rattle.maps.specs.MarkCells.{CellsMarked, markLent, MarkLeaves}
 use Rattle.laws.proofs.Verdicts.{and-both}
@@ -82,22 +82,24 @@ stays-on n h Λ mark d q l = go (eqb (Λ d) h) refl
     go false e = let ne : Λ d ≡ h → ⊥ = eqb-false (Λ d) h e in rw (q, e) (omega arith)
 
 -- the same of a level of an accepted pyramid, after what marking marked on the table that check left has been added
-module _ (n N h : ℕ) (rows lambda delta table : List ℕ) (c : checkLent (ofParts n N h rows lambda delta) table ≡ accepted) where
+module _ (P : Folded) (table : List ℕ) (c : checkLent P table ≡ accepted) where
+  open Folded P using (n, N, h)
+
   abbrev A : Involutions
-  A = level (entry N rows) n N (marks h (each lambda) (each delta)) h
+  A = level (base P) n N (marks h (lambdaOf P) (deltaOf P)) h
 
   abbrev T : List ℕ
-  T = levelTable (entry N rows) n N h (each lambda) (each delta) h
+  T = tableAt P h
 
-  valid : Valid A n (On N (each lambda) h)
-  valid = level-on (entry N rows) n N h (each lambda) (each delta) (accepted-pyramid (ofParts n N h rows lambda delta) table c) h (omega arith)
+  valid : Valid A n (On N (lambdaOf P) h)
+  valid = level-on (base P) n N h (lambdaOf P) (deltaOf P) (accepted-pyramid P table c) h (omega arith)
 
   -- the table holds the neighbours of the darts of the level
-  stored : (j d : ℕ) → j ≤ n → On N (each lambda) h d → entry N T j d ≡ A j d
-  stored j d lj o = entry-explicit A n N (survives (each lambda) h) j d lj (o .0) ∙ rw (le-ltb (each lambda d) h (o .1))
+  stored : (j d : ℕ) → j ≤ n → On N (lambdaOf P) h d → entry N T j d ≡ A j d
+  stored j d lj o = entry-explicit A n N (survives (lambdaOf P) h) j d lj (o .0) ∙ rw (le-ltb (lambdaOf P d) h (o .1))
 
   -- so a piece of the one is a piece of the other
-  piece-of : (x y : ℕ) → On N (each lambda) h x → Piece (entry N T) n x y → Piece A n x y × On N (each lambda) h y
+  piece-of : (x y : ℕ) → On N (lambdaOf P) h x → Piece (entry N T) n x y → Piece A n x y × On N (lambdaOf P) h y
   piece-of x _ o here = (here, o)
   piece-of x _ o (further d j p lj u) =
       let r = piece-of x d o p in
@@ -105,18 +107,18 @@ module _ (n N h : ℕ) (rows lambda delta table : List ℕ) (c : checkLent (ofPa
       rw e (further d j (r .0) lj refl, valid .inside j d lj (r .1))
 
   pub piece-survives : (δ : ℕ) (found out table′ : List ℕ) → h < 32
-      → markLent n N (checkLeaves (ofParts n N h rows lambda delta) table) δ found ≡ accepted → MarkLeaves n N (checkLeaves (ofParts n N h rows lambda delta) table) δ found (markLent n N (checkLeaves (ofParts n N h rows lambda delta) table) δ found) out
-      → length table′ ≡ suc n * N → (x : ℕ) → On N (each lambda) h x → (y : ℕ) × Piece A n x y × On N (each (addLambda (ofParts n N h rows lambda delta) out table′)) (suc h) y
+      → markLent n N (checkLeaves P table) δ found ≡ accepted → MarkLeaves n N (checkLeaves P table) δ found (markLent n N (checkLeaves P table) δ found) out
+      → length table′ ≡ suc n * N → (x : ℕ) → On N (lambdaOf P) h x → (y : ℕ) × Piece A n x y × On N (each (addLambda P out table′)) (suc h) y
   unfolding addLambda
   piece-survives δ found out table′ room e left as-long x o =
-      let t = accepted-table (ofParts n N h rows lambda delta) table c in
+      let t = accepted-table P table c in
       let e′ : markLent n N T δ found ≡ accepted = rw t at e in
       let marked : CellsMarked n N T δ out = rw (t, e′) at left in
       let held = accepted-level n N T δ found e′ .0 in
-      let added = marked-added n N h rows lambda delta table c room δ found out table′ e left as-long in
+      let added = marked-added P table c room δ found out table′ e left as-long in
       let few = held .rows in
       let there : present N T x ≡ true = rw (stored 0 x zero-le o, ne-eqb (A 0 x) 65535 (λ z. omega (arith, valid .inside 0 x zero-le o .0, few .darts))) in
       let r = piece-left n N T δ out marked held x (o .0, there) in
       let p = piece-of x (r .0) o (r .1) in
       let unmarked : isMark n (each out (r .0)) ≡ false = ap (isMark n) (r .3) ∙ stay-none n (omega (arith, few .dimension)) in
-      (r .0, p .0, (p .1 .0, rw (added, getD-listed (addΛ n h (each lambda) (each out)) N (r .0) 0 (p .1 .0)) (stays-on n h (each lambda) (each out) (r .0) unmarked (p .1 .1))))
+      (r .0, p .0, (p .1 .0, rw (added, getD-listed (addΛ n h (lambdaOf P) (each out)) N (r .0) 0 (p .1 .0)) (stays-on n h (lambdaOf P) (each out) (r .0) unmarked (p .1 .1))))

@@ -140,7 +140,7 @@ fn break_pieces(
     pieces: &mut [bool; ROOM],
     queue: &mut [u16; ROOM],
 )
-    requires { ⌜ ExplicitLevel (n .0) darts (now table) × ((d : ℕ) → has (now pieces) d ≡ false) × Room (now pieces) (now queue) ⌝ }
+    requires { ⌜ ExplicitLevel (n .0) darts (now table) × (1 ≤ n .0) × ((d : ℕ) → has (now pieces) d ≡ false) × Room (now pieces) (now queue) ⌝ }
     ensures gathered { λ _. ⌜ Gathered (n .0) darts (now (table .entry)) (λ j. true) (λ d. present darts (now (table .entry)) d && has (now (reached .entry)) d) (has (now (pieces .exit))) darts ⌝ }
     ensures room { λ _. ⌜ Room (now (pieces .exit)) (now (queue .exit)) ⌝ }
 {

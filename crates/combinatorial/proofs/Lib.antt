@@ -5,3 +5,4 @@ mod Written
 pub mod Shapes
 pub mod Bases
 pub mod TakenBack
+mod Patterns

@@ -88,6 +88,54 @@ export-base n N rows edges vertices e =
       valid = valid-base a 2 N 0 (λ d. d) (λ d. d) (omega arith) (map-sound a 2 N (λ d. true) (t .1));
     }
 
+-- the two rows that a base becomes are taken, and yield it
+module _ (N : ℕ) (rows : List ℕ) (one-dart : 1 ≤ N) (fit : Rows 2 N rows) (twice-M : N ≡ 2 * (N / 2)) (b : Becomes (N / 2) (edgeOf (entry N rows)) (vertexOf (entry N rows)) (entry N rows))
+    (edge-low : (d : ℕ) → d < N / 2 → edgeOf (entry N rows) d < N / 2) (vertex-low : (d : ℕ) → d < N / 2 → vertexOf (entry N rows) d < N / 2)
+    (edge-twice : (d : ℕ) → d < N / 2 → edgeOf (entry N rows) (edgeOf (entry N rows) d) ≡ d) where
+  abbrev K : ℕ
+  K = N / 2
+
+  abbrev partner : ℕ → ℕ
+  partner = edgeOf (entry N rows)
+
+  abbrev successor : ℕ → ℕ
+  successor = vertexOf (entry N rows)
+
+  successor-one : (d e : ℕ) → d < K → e < K → successor d ≡ successor e → d ≡ e
+  successor-one d e ld le f = omega (arith, sym (b .a1 d ld .1) ∙ ap (λ (x : ℕ). entry N rows 1 (2 * x)) f ∙ b .a1 e le .1)
+
+  abbrev edges : List ℕ
+  edges = listed partner K
+
+  abbrev vertices : List ℕ
+  vertices = listed successor K
+
+  edges-at : (d : ℕ) → d < K → each edges d ≡ partner d
+  edges-at d l = getD-listed partner K d 0 l
+
+  vertices-at : (d : ℕ) → d < K → each vertices d ≡ successor d
+  vertices-at d l = getD-listed successor K d 0 l
+
+  rows-taken : Taken K edges vertices rows
+  rows-taken = record {
+    one-dart = omega (arith, twice-M, one-dart);
+    darts = omega (arith, twice-M, fit .darts);
+    edges-row = record { exact = length-listed partner K; inside = λ d l. rw (edges-at d l) (edge-low d l) };
+    vertices-row = record { exact = length-listed successor K; inside = λ d l. rw (vertices-at d l) (vertex-low d l) };
+    rows-length = omega (arith, twice-M, fit .exact);
+    twice = λ d l. ap (each edges) (edges-at d l) ∙ edges-at (partner d) (edge-low d l) ∙ edge-twice d l;
+    one-to-one = λ d e ld le f. successor-one d e ld le (sym (vertices-at d ld) ∙ f ∙ vertices-at e le);
+  }
+
+  becomes : Becomes K (each edges) (each vertices) (entry N rows)
+  becomes = record { a2 = b .a2; a1 = λ d l. rw (vertices-at d l) (b .a1 d l); a0 = λ d l. rw (edges-at d l) (b .a0 d l) }
+
+  pub made-yields : Yields (N / 2) (listed (edgeOf (entry N rows)) (N / 2)) (listed (vertexOf (entry N rows)) (N / 2)) rows
+  made-yields = record {
+    taken = taken-accepted K edges vertices rows rows-taken;
+    base = subst (λ (x : ℕ). Becomes K (each edges) (each vertices) (entry x rows)) twice-M becomes;
+  }
+
 -- a valid base of that shape is the base of its two rows
 module _ (N : ℕ) (rows : List ℕ) (one-dart : 1 ≤ N) (fit : Rows 2 N rows) (valid : Valid (entry N rows) 2 (λ d. d < N)) (shape : Alternates N (entry N rows)) where
   abbrev a : Involutions
@@ -133,44 +181,9 @@ module _ (N : ℕ) (rows : List ℕ) (one-dart : 1 ≤ N) (fit : Rows 2 N rows) 
   edge-twice : (d : ℕ) → d < M → edge (edge d) ≡ d
   edge-twice d l = omega (arith, at (edge d) (edge-low d l) .2, ap (a 0) (sym (far d l)) ∙ valid .twice 0 (2 * d + 1) (omega arith) (low d l))
 
-  vertex-one : (d e : ℕ) → d < M → e < M → vertex d ≡ vertex e → d ≡ e
-  vertex-one d e ld le f = omega (arith, sym (turn d ld) ∙ ap (λ (x : ℕ). a 1 (2 * x)) f ∙ turn e le)
-
-  abbrev edges : List ℕ
-  edges = listed edge M
-
-  abbrev vertices : List ℕ
-  vertices = listed vertex M
-
-  edges-at : (d : ℕ) → d < M → each edges d ≡ edge d
-  edges-at d l = getD-listed edge M d 0 l
-
-  vertices-at : (d : ℕ) → d < M → each vertices d ≡ vertex d
-  vertices-at d l = getD-listed vertex M d 0 l
-
-  rows-taken : Taken M edges vertices rows
-  rows-taken = record {
-    one-dart = omega (arith, twice-M, one-dart);
-    darts = omega (arith, twice-M, fit .darts);
-    edges-row = record { exact = length-listed edge M; inside = λ d l. rw (edges-at d l) (edge-low d l) };
-    vertices-row = record { exact = length-listed vertex M; inside = λ d l. rw (vertices-at d l) (vertex-low d l) };
-    rows-length = omega (arith, twice-M, fit .exact);
-    twice = λ d l. ap (each edges) (edges-at d l) ∙ edges-at (edge d) (edge-low d l) ∙ edge-twice d l;
-    one-to-one = λ d e ld le f. vertex-one d e ld le (sym (vertices-at d ld) ∙ f ∙ vertices-at e le);
-  }
-
-  becomes : Becomes M (each edges) (each vertices) a
-  becomes = record {
-    a2 = λ d l. (at d l .0, side d l);
-    a1 = λ d l. rw (vertices-at d l) (at d l .1, turn d l);
-    a0 = λ d l. rw (edges-at d l) (at d l .2, far d l);
-  }
-
   pub shape-yields : Yields (N / 2) (listed (edgeOf (entry N rows)) (N / 2)) (listed (vertexOf (entry N rows)) (N / 2)) rows
-  shape-yields = record {
-    taken = taken-accepted M edges vertices rows rows-taken;
-    base = subst (λ (K : ℕ). Becomes M (each edges) (each vertices) (entry K rows)) twice-M becomes;
-  }
+  shape-yields =
+      made-yields N rows one-dart fit twice-M (record { a2 = λ d l. (at d l .0, side d l); a1 = λ d l. (at d l .1, turn d l); a0 = λ d l. (at d l .2, far d l) }) edge-low vertex-low edge-twice
 
 -- and a base that two rows yield has that shape
 pub yields-shape : (N M : ℕ) (rows edges vertices : List ℕ) → length rows ≡ 3 * N → Yields M edges vertices rows → Alternates N (entry N rows)

@@ -35,7 +35,7 @@ fn sizes(darts: u16, edges: usize, vertices: usize, rows: usize) -> Check
 }
 
 // Is an entry no dart of the partner's? The loop has no exit, so that the compiler may take many entries at once.
-fn any_outside(darts: u16, row: &[u16]) -> bool
+pub fn any_outside(darts: u16, row: &[u16]) -> bool
     ensures { λ r. ⌜ (r ≡ false → (d : ℕ) → d < length (now (row .entry)) → each (now (row .entry)) d < darts) ⌝ }
 {
     let mut any = false;

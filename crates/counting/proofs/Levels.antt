@@ -8,14 +8,14 @@ use lib.ListN.{length}
 use borrow.Author.Tests.{ltb-false, le-ltb, not-true}
 use Rattle.maps.specs.Map.{Involutions, Valid}
 use Rattle.maps.specs.Cell.{Cell, itself, onward}
-use Rattle.maps.specs.Table.{entry, each}
-use Rattle.maps.specs.Folded.{On, gone, survives, marks, level, levelTable, ofParts}
+use Rattle.maps.specs.Table.{entry}
+use Rattle.maps.specs.Folded.{On, gone, survives, marks, level, Folded, base, lambdaOf, deltaOf}
 use Rattle.maps.specs.Explicit.{present, There}
 use Rattle.maps.specs.Pyramid.{Pyramid}
 use Rattle.maps.specs.Accepted.{Accepted}
 use Rattle.maps.specs.Verdict.{accepted, _then_}
 use Rattle.maps.specs.Check.{checkMap, check8, kernelAt, checkKernels, checkPyramid}
-use Rattle.maps.specs.CheckPyramid.{leftBehind}
+use Rattle.maps.specs.CheckPyramid.{leftBehind, tableAt}
 use Rattle.maps.specs.Census.{Lowest, CellCount}
 use Rattle.laws.proofs.Tables.{length-explicit}
 use Rattle.laws.proofs.Verdicts.{then-accepted, scan-accepted, scan-all}
@@ -63,25 +63,27 @@ module _ (a : Involutions) (n N h : ℕ) (Λ Δ : ℕ → ℕ) (y : Pyramid a n 
       on : (d : ℕ) → (d < N) × (survives Λ l d ≡ true) → On N Λ l d
       on d p = (p .0, ltb-false (Λ d) l (not-true (gone Λ l d) (p .1)))
 
-module _ (n N h : ℕ) (rows lambda delta table : List ℕ) (p : Accepted (ofParts n N h rows lambda delta) table) (l : ℕ) (k : l ≤ h) where
+module _ (P : Folded) (table : List ℕ) (p : Accepted P table) (l : ℕ) (k : l ≤ P .h) where
+  open Folded P using (n, N, h)
+
   abbrev a : Involutions
-  a = level (entry N rows) n N (marks h (each lambda) (each delta)) l
+  a = level (base P) n N (marks h (lambdaOf P) (deltaOf P)) l
 
   abbrev T : List ℕ
-  T = levelTable (entry N rows) n N h (each lambda) (each delta) l
+  T = tableAt P l
 
-  v : Valid a n (There N (survives (each lambda) l))
-  v = survivors-valid (entry N rows) n N h (each lambda) (each delta) (p .pyramid) l k
+  v : Valid a n (There N (survives (lambdaOf P) l))
+  v = survivors-valid (base P) n N h (lambdaOf P) (deltaOf P) (p .pyramid) l k
 
   -- the table of a level is an explicit level that is accepted
   pub table-explicit : ExplicitLevel n N T
   table-explicit = record {
-    rows = record { dimension = p .dimension .1; darts = p .darts .1; exact = length-explicit a n N (survives (each lambda) l) };
-    accepts = sound-map (entry N T) n N (present N T) (stored-sound a n N (survives (each lambda) l) (omega (arith, p .darts .1)) v);
+    rows = record { dimension = p .dimension .1; darts = p .darts .1; exact = length-explicit a n N (survives (lambdaOf P) l) };
+    accepts = sound-map (entry N T) n N (present N T) (stored-sound a n N (survives (lambdaOf P) l) (omega (arith, p .darts .1)) v);
   }
 
   -- and as long as it was
-  pub table-accepted : Accepted (ofParts n N h rows lambda delta) T
+  pub table-accepted : Accepted P T
   table-accepted = record {
     dimension = p .dimension;
     darts = p .darts;
@@ -89,12 +91,12 @@ module _ (n N h : ℕ) (rows lambda delta table : List ℕ) (p : Accepted (ofPar
     rows-length = p .rows-length;
     lambda-length = p .lambda-length;
     delta-length = p .delta-length;
-    table-length = length-explicit a n N (survives (each lambda) l);
+    table-length = length-explicit a n N (survives (lambdaOf P) l);
     pyramid = p .pyramid;
   }
 
   -- a climb can begin
-  pub climb-base : Base (ofParts n N h rows lambda delta)
+  pub climb-base : Base P
   climb-base = record {
     dimension = p .dimension .1;
     darts = p .darts .1;
@@ -107,23 +109,23 @@ module _ (n N h : ℕ) (rows lambda delta table : List ℕ) (p : Accepted (ofPar
   }
 
   -- passes every kernel below
-  pub climb-passes : climbsTo (ofParts n N h rows lambda delta) l ≡ accepted
+  pub climb-passes : climbsTo P l ≡ accepted
   unfolding checkKernels checkPyramid
   climb-passes =
-      let marked = check8 n N h (each lambda) (each delta) in
-      let kernels = checkKernels (entry N rows) n N h (each lambda) (each delta) in
-      let whole = pyramid-check (entry N rows) n N h (each lambda) (each delta) (p .pyramid .dimension) (p .pyramid) in
-      let below = then-accepted (checkMap (entry N rows) n N (λ d. true)) (marked then kernels) whole .1 in
+      let marked = check8 n N h (lambdaOf P) (deltaOf P) in
+      let kernels = checkKernels (base P) n N h (lambdaOf P) (deltaOf P) in
+      let whole = pyramid-check (base P) n N h (lambdaOf P) (deltaOf P) (p .pyramid .dimension) (p .pyramid) in
+      let below = then-accepted (checkMap (base P) n N (λ d. true)) (marked then kernels) whole .1 in
       let all = then-accepted marked kernels below .1 in
-      scan-all l (kernelAt (entry N rows) n N h (each lambda) (each delta)) (λ x lx. scan-accepted h (kernelAt (entry N rows) n N h (each lambda) (each delta)) all x (omega arith))
+      scan-all l (kernelAt (base P) n N h (lambdaOf P) (deltaOf P)) (λ x lx. scan-accepted h (kernelAt (base P) n N h (lambdaOf P) (deltaOf P)) all x (omega arith))
 
   -- and leaves it
-  pub table-climbed : climbToLeaves (ofParts n N h rows lambda delta) l ≡ T
+  pub table-climbed : climbToLeaves P l ≡ T
   unfolding leftBehind
   table-climbed = rw climb-passes
 
   -- its cells are counted in the table
-  pub table-counted : (i number : ℕ) → CellCount (entry N T) n N (present N T) i number → CellCount a n N (survives (each lambda) l) i number
+  pub table-counted : (i number : ℕ) → CellCount (entry N T) n N (present N T) i number → CellCount a n N (survives (lambdaOf P) l) i number
   table-counted i number c =
       let few : N ≤ 65535 = omega (arith, p .darts .1) in
-      count-to a (entry N T) n N (survives (each lambda) l) (λ j d lj o. stored a n N (survives (each lambda) l) few v j d lj o) v i (present N T) (λ d ld. stored-present a n N (survives (each lambda) l) few v d ld) number c
+      count-to a (entry N T) n N (survives (lambdaOf P) l) (λ j d lj o. stored a n N (survives (lambdaOf P) l) few v j d lj o) v i (present N T) (λ d ld. stored-present a n N (survives (lambdaOf P) l) few v d ld) number c

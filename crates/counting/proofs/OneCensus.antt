@@ -12,8 +12,7 @@ use lib.IntN.{ℤ, pos}
 use borrow.Author.Tests.{ltb-true, ltb-false}
 use Rattle.maps.specs.Count.{one, count}
 use Rattle.maps.specs.Map.{Involutions}
-use Rattle.maps.specs.Table.{entry, each}
-use Rattle.maps.specs.Folded.{survives, survivors, marks, level, ofParts}
+use Rattle.maps.specs.Folded.{survives, survivors, marks, level, Folded, base, lambdaOf, deltaOf}
 use Rattle.maps.specs.Verdict.{Verdict, accepted, refused}
 use Rattle.maps.specs.Census.{CellCount, Census, countAt, countIn, sumAt, CensusTaken, CensusLeaves, CensusPut, CensusPutLeaves}
 use Rattle.laws.proofs.Counting.{count-same}
@@ -72,39 +71,42 @@ module _ (a : Involutions) (n N h : ℕ) (Λ Δ : ℕ → ℕ) where
             let f = ltb-false h l q in
             k .sum l f ∙ alternating-same (counts l) (counts′ l) (suc n) (λ i li. same-counts l i f (omega arith)) ∙ sym (k′ .sum l f)
 
--- so a census in an array of arrays is one
-pub taken-one : (n N h : ℕ) (rows lambda delta : List ℕ) (cells cells′ : List (List ℕ)) (sums sums′ : List ℤ) → CensusTaken (ofParts n N h rows lambda delta) cells sums → CensusTaken (ofParts n N h rows lambda delta) cells′ sums′ → (cells ≡ cells′) × (sums ≡ sums′)
-taken-one n N h rows lambda delta cells cells′ sums sums′ k k′ = (
-  ext-getD [] cells cells′ (k .rows-long ∙ sym (k′ .rows-long))
-      (λ l ll.
-      let low : l < 33 = omega (arith, k .rows-long) in
-      ext-getD zero (getD cells l []) (getD cells′ l []) (k .row-long l low ∙ sym (k′ .row-long l low))
-      (λ i li. census-one (entry N rows) n N h (each lambda) (each delta) (countAt cells) (countAt cells′) (sumAt sums) (sumAt sums′) (k .census) (k′ .census) l i low (omega (arith, k .row-long l low)))),
-  ext-getD (pos 0) sums sums′ (k .sums-long ∙ sym (k′ .sums-long))
-      (λ l ll. sums-one (entry N rows) n N h (each lambda) (each delta) (countAt cells) (countAt cells′) (sumAt sums) (sumAt sums′) (k .census) (k′ .census) l (omega (arith, k .sums-long))),
-)
+module _ (P : Folded) where
+  open Folded P using (n, N, h)
 
--- and one in slices
-pub put-one : (n N h : ℕ) (rows lambda delta cells cells′ : List ℕ) (sums sums′ : List ℤ) → CensusPut (ofParts n N h rows lambda delta) cells sums → CensusPut (ofParts n N h rows lambda delta) cells′ sums′ → (cells ≡ cells′) × (sums ≡ sums′)
-put-one n N h rows lambda delta cells cells′ sums sums′ k k′ = (
-  ext-getD zero cells cells′ (k .cells-long ∙ sym (k′ .cells-long))
-      (λ x lx.
-      let w = place 32 5 x (omega (arith, k .cells-long)) in
-      let placed : 5 * (x / 5) + x % 5 ≡ x = omega (arith, w .2) in
-      let e = census-one (entry N rows) n N h (each lambda) (each delta) (countIn cells) (countIn cells′) (sumAt sums) (sumAt sums′) (k .census) (k′ .census) (x / 5) (x % 5) (omega (arith, w .0)) (w .1) in
-      rw placed at e),
-  ext-getD (pos 0) sums sums′ (k .sums-long ∙ sym (k′ .sums-long))
-      (λ l ll. sums-one (entry N rows) n N h (each lambda) (each delta) (countIn cells) (countIn cells′) (sumAt sums) (sumAt sums′) (k .census) (k′ .census) l (omega (arith, k .sums-long))),
-)
+  -- so a census in an array of arrays is one
+  pub taken-one : (cells cells′ : List (List ℕ)) (sums sums′ : List ℤ) → CensusTaken P cells sums → CensusTaken P cells′ sums′ → (cells ≡ cells′) × (sums ≡ sums′)
+  taken-one cells cells′ sums sums′ k k′ = (
+    ext-getD [] cells cells′ (k .rows-long ∙ sym (k′ .rows-long))
+        (λ l ll.
+        let low : l < 33 = omega (arith, k .rows-long) in
+        ext-getD zero (getD cells l []) (getD cells′ l []) (k .row-long l low ∙ sym (k′ .row-long l low))
+        (λ i li. census-one (base P) n N h (lambdaOf P) (deltaOf P) (countAt cells) (countAt cells′) (sumAt sums) (sumAt sums′) (k .census) (k′ .census) l i low (omega (arith, k .row-long l low)))),
+    ext-getD (pos 0) sums sums′ (k .sums-long ∙ sym (k′ .sums-long))
+        (λ l ll. sums-one (base P) n N h (lambdaOf P) (deltaOf P) (countAt cells) (countAt cells′) (sumAt sums) (sumAt sums′) (k .census) (k′ .census) l (omega (arith, k .sums-long))),
+  )
 
--- what a verdict leaves is one, in arrays
-pub leaves-one : (n N h : ℕ) (rows lambda delta : List ℕ) (v : Verdict) (found : List (List ℕ)) (found-sums : List ℤ) (cells cells′ : List (List ℕ)) (sums sums′ : List ℤ)
-    → CensusLeaves (ofParts n N h rows lambda delta) v found found-sums cells sums → CensusLeaves (ofParts n N h rows lambda delta) v found found-sums cells′ sums′ → (cells ≡ cells′) × (sums ≡ sums′)
-leaves-one n N h rows lambda delta accepted found found-sums cells cells′ sums sums′ k k′ = taken-one n N h rows lambda delta cells cells′ sums sums′ k k′
-leaves-one n N h rows lambda delta (refused number level involution dart) found found-sums cells cells′ sums sums′ k k′ = (k .0 ∙ sym (k′ .0), k .1 ∙ sym (k′ .1))
+  -- and one in slices
+  pub put-one : (cells cells′ : List ℕ) (sums sums′ : List ℤ) → CensusPut P cells sums → CensusPut P cells′ sums′ → (cells ≡ cells′) × (sums ≡ sums′)
+  put-one cells cells′ sums sums′ k k′ = (
+    ext-getD zero cells cells′ (k .cells-long ∙ sym (k′ .cells-long))
+        (λ x lx.
+        let w = place 32 5 x (omega (arith, k .cells-long)) in
+        let placed : 5 * (x / 5) + x % 5 ≡ x = omega (arith, w .2) in
+        let e = census-one (base P) n N h (lambdaOf P) (deltaOf P) (countIn cells) (countIn cells′) (sumAt sums) (sumAt sums′) (k .census) (k′ .census) (x / 5) (x % 5) (omega (arith, w .0)) (w .1) in
+        rw placed at e),
+    ext-getD (pos 0) sums sums′ (k .sums-long ∙ sym (k′ .sums-long))
+        (λ l ll. sums-one (base P) n N h (lambdaOf P) (deltaOf P) (countIn cells) (countIn cells′) (sumAt sums) (sumAt sums′) (k .census) (k′ .census) l (omega (arith, k .sums-long))),
+  )
 
--- and in slices
-pub put-leaves-one : (n N h : ℕ) (rows lambda delta : List ℕ) (v : Verdict) (found : List ℕ) (found-sums : List ℤ) (cells cells′ : List ℕ) (sums sums′ : List ℤ)
-    → CensusPutLeaves (ofParts n N h rows lambda delta) v found found-sums cells sums → CensusPutLeaves (ofParts n N h rows lambda delta) v found found-sums cells′ sums′ → (cells ≡ cells′) × (sums ≡ sums′)
-put-leaves-one n N h rows lambda delta accepted found found-sums cells cells′ sums sums′ k k′ = put-one n N h rows lambda delta cells cells′ sums sums′ k k′
-put-leaves-one n N h rows lambda delta (refused number level involution dart) found found-sums cells cells′ sums sums′ k k′ = (k .0 ∙ sym (k′ .0), k .1 ∙ sym (k′ .1))
+  -- what a verdict leaves is one, in arrays
+  pub leaves-one : (v : Verdict) (found : List (List ℕ)) (found-sums : List ℤ) (cells cells′ : List (List ℕ)) (sums sums′ : List ℤ)
+      → CensusLeaves P v found found-sums cells sums → CensusLeaves P v found found-sums cells′ sums′ → (cells ≡ cells′) × (sums ≡ sums′)
+  leaves-one accepted found found-sums cells cells′ sums sums′ k k′ = taken-one cells cells′ sums sums′ k k′
+  leaves-one (refused number level involution dart) found found-sums cells cells′ sums sums′ k k′ = (k .0 ∙ sym (k′ .0), k .1 ∙ sym (k′ .1))
+
+  -- and in slices
+  pub put-leaves-one : (v : Verdict) (found : List ℕ) (found-sums : List ℤ) (cells cells′ : List ℕ) (sums sums′ : List ℤ)
+      → CensusPutLeaves P v found found-sums cells sums → CensusPutLeaves P v found found-sums cells′ sums′ → (cells ≡ cells′) × (sums ≡ sums′)
+  put-leaves-one accepted found found-sums cells cells′ sums sums′ k k′ = put-one cells cells′ sums sums′ k k′
+  put-leaves-one (refused number level involution dart) found found-sums cells cells′ sums sums′ k k′ = (k .0 ∙ sym (k′ .0), k .1 ∙ sym (k′ .1))

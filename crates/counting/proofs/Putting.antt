@@ -14,8 +14,8 @@ use mir.Syntax.{w32}
 use mir.Val.{SFits}
 use Rattle.maps.specs.Verdict.{Verdict, accepted, refused, when, _then_}
 use Rattle.maps.specs.Sizes.{number1, number2, number3, number4, sizes, hasLength}
-use Rattle.maps.specs.Table.{entry, each}
-use Rattle.maps.specs.Folded.{survives, marks, level, ofParts}
+use Rattle.maps.specs.Table.{each}
+use Rattle.maps.specs.Folded.{survives, marks, level, Folded, base, lambdaOf, deltaOf}
 use Rattle.maps.specs.Accepted.{Accepted}
 use Rattle.maps.specs.CheckPyramid.{checkLent, checkLeaves}
 use Rattle.maps.specs.Census.{CellCount, countAt, countIn, sumAt, CensusTaken, CensusLeaves, CensusPut, CensusPutLeaves, censusFits, censusLent, censusTable}
@@ -60,15 +60,17 @@ sizes-early : (n N h : ℕ) → Refuses (sizes n N h then number4 false)
 unfolding sizes number1 number2 number3 number4
 sizes-early n N h = early (not (leb 1 n && leb n 4)) (not (leb 1 N && leb N 4096)) (ltb 32 h)
 
-module _ (n N h : ℕ) (rows lambda delta table cells : List ℕ) (sums : List ℤ) where
+module _ (P : Folded) (table cells : List ℕ) (sums : List ℤ) where
+  open Folded P using (n, N, h)
+
   abbrev lent : Verdict
-  lent = censusLent (ofParts n N h rows lambda delta) table cells sums
+  lent = censusLent P table cells sums
 
   abbrev Left : List ℕ → List ℤ → Type 0
-  Left = CensusPutLeaves (ofParts n N h rows lambda delta) lent cells sums
+  Left = CensusPutLeaves P lent cells sums
 
   abbrev checked : Verdict
-  checked = checkLent (ofParts n N h rows lambda delta) table
+  checked = checkLent P table
 
   -- a refusal leaves both as found
   refused-left : Refuses lent → Left cells sums
@@ -78,11 +80,11 @@ module _ (n N h : ℕ) (rows lambda delta table cells : List ℕ) (sums : List �
   module _ (other : censusFits cells sums ≡ false) where
     pub other-lengths : lentOf n N h false ≡ lent
     unfolding censusLent
-    other-lengths = sym (with-other (ofParts n N h rows lambda delta) table (censusFits cells sums) other)
+    other-lengths = sym (with-other P table (censusFits cells sums) other)
 
-    pub other-table : table ≡ censusTable (ofParts n N h rows lambda delta) table cells sums
+    pub other-table : table ≡ censusTable P table cells sums
     unfolding censusTable
-    other-table = sym (with-found (ofParts n N h rows lambda delta) table (censusFits cells sums) other)
+    other-table = sym (with-found P table (censusFits cells sums) other)
 
     pub other-left : Left cells sums
     other-left = let x = sizes-early n N h in refused-left (record { number = x .number; level = x .level; involution = x .involution; dart = x .dart; is = sym other-lengths ∙ x .is })
@@ -91,25 +93,25 @@ module _ (n N h : ℕ) (rows lambda delta table cells : List ℕ) (sums : List �
     -- slices of these lengths: the check's verdict
     pub same-verdict : checked ≡ lent
     unfolding censusLent
-    same-verdict = sym (with-checks (ofParts n N h rows lambda delta) table (censusFits cells sums) same)
+    same-verdict = sym (with-checks P table (censusFits cells sums) same)
 
-    pub same-table : checkLeaves (ofParts n N h rows lambda delta) table ≡ censusTable (ofParts n N h rows lambda delta) table cells sums
+    pub same-table : checkLeaves P table ≡ censusTable P table cells sums
     unfolding censusTable
-    same-table = sym (with-leaves (ofParts n N h rows lambda delta) table (censusFits cells sums) same)
+    same-table = sym (with-leaves P table (censusFits cells sums) same)
 
     pub same-refused : (r : Refusal) → refusalOf r ≡ checked → Left cells sums
     same-refused r e = let x = refusal-refuses r in refused-left (record { number = x .number; level = x .level; involution = x .involution; dart = x .dart; is = sym same-verdict ∙ sym e ∙ x .is })
 
   -- the census in arrays, accepted
-  module _ (fine : accepted ≡ checked) (found : List (List ℕ)) (found-sums : List ℤ) (counts : List (List ℕ)) (all : List ℤ) (left : CensusLeaves (ofParts n N h rows lambda delta) checked found found-sums counts all) where
-    p : Accepted (ofParts n N h rows lambda delta) table
-    p = check-accepts (ofParts n N h rows lambda delta) table (sym fine)
+  module _ (fine : accepted ≡ checked) (found : List (List ℕ)) (found-sums : List ℤ) (counts : List (List ℕ)) (all : List ℤ) (left : CensusLeaves P checked found found-sums counts all) where
+    p : Accepted P table
+    p = check-accepts P table (sym fine)
 
-    taken : CensusTaken (ofParts n N h rows lambda delta) counts all
+    taken : CensusTaken P counts all
     taken = rw (sym fine) at left
 
-    counted : Counted n N h rows lambda delta counts (h + 1)
-    counted = taken-counted n N h rows lambda delta counts all taken
+    counted : Counted P counts (h + 1)
+    counted = taken-counted P counts all taken
 
     -- its sums fit
     pub all-fit : Fitting all
@@ -119,7 +121,7 @@ module _ (n N h : ℕ) (rows lambda delta table cells : List ℕ) (sums : List �
         go l ll true q = rw (taken .census .unused-sum l ll (ltb-true h l q)) (record { sfits = omega arith })
         go l ll false q =
             let low = ltb-false h l q in
-            rw (taken .census .sum l low ∙ sym (counted-used n N h rows lambda delta table p counts counted l low)) (alternating-fits (countAt counts l) (λ i li. counted-few n N h rows lambda delta table p counts counted .few l i ll li))
+            rw (taken .census .sum l low ∙ sym (counted-used P table p counts counted l low)) (alternating-fits (countAt counts l) (λ i li. counted-few P table p counts counted .few l i ll li))
 
     -- and it is the census in slices
     pub put-left : censusFits cells sums ≡ true → (cells′ : List ℕ) (sums′ : List ℤ) → CellsPut counts cells′ → sums′ ≡ all → Left cells′ sums′
@@ -130,7 +132,7 @@ module _ (n N h : ℕ) (rows lambda delta table cells : List ℕ) (sums : List �
           cells-long = w .long;
           sums-long = ap length e ∙ taken .sums-long;
           census = record {
-            cells = λ l i ll li. subst (λ (m : ℕ). CellCount (level (entry N rows) n N (marks h (each lambda) (each delta)) l) n N (survives (each lambda) l) i m) (sym (w .put l i (omega (arith, p .height)) (omega (arith, p .dimension .1)))) (taken .census .cells l i ll li);
+            cells = λ l i ll li. subst (λ (m : ℕ). CellCount (level (base P) n N (marks h (lambdaOf P) (deltaOf P)) l) n N (survives (lambdaOf P) l) i m) (sym (w .put l i (omega (arith, p .height)) (omega (arith, p .dimension .1)))) (taken .census .cells l i ll li);
             unused = λ l i ll li f. w .put l i ll li ∙ taken .census .unused l i ll li f;
             sum = λ l ll. ap (λ (s : List ℤ). sumAt s l) e ∙ taken .census .sum l ll ∙ alternating-same (countAt counts l) (countIn cells′ l) (suc n) (λ i li. sym (w .put l i (omega (arith, p .height)) (omega (arith, p .dimension .1))));
             unused-sum = λ l ll f. ap (λ (s : List ℤ). sumAt s l) e ∙ taken .census .unused-sum l ll f;

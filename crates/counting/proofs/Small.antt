@@ -17,7 +17,7 @@ use Rattle.maps.specs.Census.{Lowest, CellCount, alternating}
 use Rattle.maps.specs.Mark.{isMark, between, hasBeyond, beyond}
 use Rattle.maps.specs.Removal.{goOn, removal}
 use Rattle.maps.specs.Sizes.{number1, number2, number3, number4, sizes}
-use Rattle.maps.specs.Folded.{survives, marks, level, ofParts}
+use Rattle.maps.specs.Folded.{survives, marks, level}
 use Rattle.maps.specs.Accepted.{Accepted}
 use Rattle.maps.specs.CheckPyramid.{checkLent}
 use Rattle.maps.specs.Check.{at5, at6, at7, check5, check6, check7, checkMap}
@@ -139,9 +139,9 @@ pub star-sums : (alternating (each (4 ∷ 3 ∷ 1 ∷ [])) 3 ≡ pos 2) × (alte
 unfolding alternating
 star-sums = (refl, refl, refl)
 
-star-accepted : Accepted (ofParts 2 12 2 (star .rows) (star .lambda) (star .delta)) (star .rows)
+star-accepted : Accepted star (star .rows)
 unfolding checkLent sizes number1 number2 number3 number4
-star-accepted = check-accepts (ofParts 2 12 2 (star .rows) (star .lambda) (star .delta)) (star .rows) (small-maps .p9 .0)
+star-accepted = check-accepts star (star .rows) (small-maps .p9 .0)
 
 -- the number of i-cells of a level of the star
 abbrev pub StarCount : ℕ → ℕ → ℕ → Type 0
@@ -149,7 +149,7 @@ StarCount l i number = CellCount (level (entry 12 (star .rows)) 2 12 (marks 2 (e
 
 -- is that of its table
 star-count : (l : ℕ) → l ≤ 2 → (T : List ℕ) → table star l ≡ T → (i number : ℕ) → CellCount (entry 12 T) 2 12 (present 12 T) i number → StarCount l i number
-star-count l ll T e i number c = table-counted 2 12 2 (star .rows) (star .lambda) (star .delta) (star .rows) star-accepted l ll i number (subst (λ (t : List ℕ). CellCount (entry 12 t) 2 12 (present 12 t) i number) (sym e) c)
+star-count l ll T e i number c = table-counted star (star .rows) star-accepted l ll i number (subst (λ (t : List ℕ). CellCount (entry 12 t) 2 12 (present 12 t) i number) (sym e) c)
 
 star-explicit : ExplicitLevel 2 12 (starTable 0) × ExplicitLevel 2 12 (starTable 1) × ExplicitLevel 2 12 (starTable 2)
 unfolding scan check5 check6 check7 checkMap at5 at6 at7

@@ -10,11 +10,10 @@ use lib.Seq.{getD-set-same, getD-set-other}
 use lib.Dec.{eqb, ltb}
 use lib.IntN.{ℤ}
 use borrow.Author.Tests.{eqb-true, eqb-false, ltb-true, ltb-false}
-use Rattle.maps.specs.Table.{entry, each}
-use Rattle.maps.specs.Folded.{survives, marks, level, levelTable, ofParts}
+use Rattle.maps.specs.Folded.{survives, marks, level, Folded, base, lambdaOf, deltaOf}
 use Rattle.maps.specs.Accepted.{Accepted}
 use Rattle.maps.specs.Verdict.{Verdict, accepted, refused}
-use Rattle.maps.specs.CheckPyramid.{checkLent, checkLeaves}
+use Rattle.maps.specs.CheckPyramid.{checkLent, checkLeaves, tableAt}
 use Rattle.maps.specs.Census.{CellCount, alternating, countAt, CensusTaken, CensusLeaves}
 use Rattle.laws.proofs.Counting.{count-le}
 use Rattle.facts.proofs.AcceptedJobs.{accepted-table}
@@ -32,9 +31,11 @@ use Rattle.counting.proofs.Alternating.{alternating-unused, alternating
 abbrev none : List ℕ
 none = replicate 5 0
 
-module _ (n N h : ℕ) (rows lambda delta : List ℕ) where
+module _ (P : Folded) where
+  open Folded P using (n, N, h)
+
   -- it begins with no count
-  pub counted-none : Counted n N h rows lambda delta zeroed 0
+  pub counted-none : Counted P zeroed 0
   unfolding zeroed
   counted-none = record {
     rows-long = length-replicate 33 none;
@@ -43,8 +44,8 @@ module _ (n N h : ℕ) (rows lambda delta : List ℕ) where
     unused = λ l i ll li f. ap (λ (r : List ℕ). getD r i 0) (getD-replicate 33 l none [] ll) ∙ getD-replicate 5 i zero zero li;
   }
 
-  module _ (table : List ℕ) (p : Accepted (ofParts n N h rows lambda delta) table) (counts : List (List ℕ)) (k : ℕ) (lk : k ≤ h) (s : Counted n N h rows lambda delta counts k) (row : List ℕ)
-      (c : LevelCounted n N (levelTable (entry N rows) n N h (each lambda) (each delta) k) row) where
+  module _ (table : List ℕ) (p : Accepted P table) (counts : List (List ℕ)) (k : ℕ) (lk : k ≤ h) (s : Counted P counts k) (row : List ℕ)
+      (c : LevelCounted n N (tableAt P k) row) where
     -- what holds of the new row and of the others holds of each
     by-row : (Q : List ℕ → Type 0) (l : ℕ) → (l ≡ k → Q row) → ((l ≡ k → ⊥) → Q (getD counts l [])) → Q (getD (set counts k row) l [])
     by-row Q l f g = go (eqb l k) refl
@@ -56,13 +57,13 @@ module _ (n N h : ℕ) (rows lambda delta : List ℕ) where
         go false q = let ne = eqb-false l k q in subst Q (sym (getD-set-other counts k l row [] ne)) (g ne)
 
     -- the counts of one level more
-    pub counted-row : Counted n N h rows lambda delta (set counts k row) (k + 1)
+    pub counted-row : Counted P (set counts k row) (k + 1)
     counted-row = record {
       rows-long = length-set counts k row ∙ s .rows-long;
       row-long = λ l ll. by-row (λ r. length r ≡ 5) l (λ e. c .long) (λ ne. s .row-long l ll);
       cells = λ l i ll li.
-          by-row (λ r. CellCount (level (entry N rows) n N (marks h (each lambda) (each delta)) l) n N (survives (each lambda) l) i (getD r i 0)) l
-          (λ e. subst (λ (x : ℕ). CellCount (level (entry N rows) n N (marks h (each lambda) (each delta)) x) n N (survives (each lambda) x) i (getD row i 0)) (sym e) (table-counted n N h rows lambda delta table p k lk i (getD row i 0) (c .cells i li)))
+          by-row (λ r. CellCount (level (base P) n N (marks h (lambdaOf P) (deltaOf P)) l) n N (survives (lambdaOf P) l) i (getD r i 0)) l
+          (λ e. subst (λ (x : ℕ). CellCount (level (base P) n N (marks h (lambdaOf P) (deltaOf P)) x) n N (survives (lambdaOf P) x) i (getD row i 0)) (sym e) (table-counted P table p k lk i (getD row i 0) (c .cells i li)))
           (λ ne. s .cells l i (omega arith) li);
       unused = λ l i ll li f.
           by-row (λ r. getD r i 0 ≡ 0) l
@@ -71,16 +72,16 @@ module _ (n N h : ℕ) (rows lambda delta : List ℕ) where
     }
 
   -- a level climbed to
-  module _ (table : List ℕ) (p : Accepted (ofParts n N h rows lambda delta) table) (k : ℕ) (lk : k ≤ h) (next : List ℕ) (is : next ≡ climbToLeaves (ofParts n N h rows lambda delta) k) where
+  module _ (table : List ℕ) (p : Accepted P table) (k : ℕ) (lk : k ≤ h) (next : List ℕ) (is : next ≡ climbToLeaves P k) where
     -- its table is the explicit level
-    pub climbed-table : next ≡ levelTable (entry N rows) n N h (each lambda) (each delta) k
-    climbed-table = is ∙ table-climbed n N h rows lambda delta table p k lk
+    pub climbed-table : next ≡ tableAt P k
+    climbed-table = is ∙ table-climbed P table p k lk
 
     -- and can be counted
     pub climbed-explicit : ExplicitLevel n N next
-    climbed-explicit = rw climbed-table (table-explicit n N h rows lambda delta table p k lk)
+    climbed-explicit = rw climbed-table (table-explicit P table p k lk)
 
-  module _ (table : List ℕ) (p : Accepted (ofParts n N h rows lambda delta) table) (counts : List (List ℕ)) (s : Counted n N h rows lambda delta counts (h + 1)) where
+  module _ (table : List ℕ) (p : Accepted P table) (counts : List (List ℕ)) (s : Counted P counts (h + 1)) where
     -- no count is above the number of darts
     pub counted-few : Few counts
     counted-few = record { rows-long = s .rows-long; row-long = s .row-long; few = λ l i ll li. go l i ll li (ltb h l) refl (ltb n i) refl }
@@ -100,7 +101,7 @@ module _ (n N h : ℕ) (rows lambda delta : List ℕ) where
         rw e at u
 
     -- with the sums it is the census
-    pub counted-census : (sums : List ℤ) → Summed counts sums → CensusTaken (ofParts n N h rows lambda delta) counts sums
+    pub counted-census : (sums : List ℤ) → Summed counts sums → CensusTaken P counts sums
     counted-census sums w = record {
       rows-long = s .rows-long;
       row-long = s .row-long;
@@ -114,7 +115,7 @@ module _ (n N h : ℕ) (rows lambda delta : List ℕ) where
     }
 
   -- and a census has these counts
-  pub taken-counted : (counts : List (List ℕ)) (sums : List ℤ) → CensusTaken (ofParts n N h rows lambda delta) counts sums → Counted n N h rows lambda delta counts (h + 1)
+  pub taken-counted : (counts : List (List ℕ)) (sums : List ℤ) → CensusTaken P counts sums → Counted P counts (h + 1)
   taken-counted counts sums k = record {
     rows-long = k .rows-long;
     row-long = k .row-long;
@@ -123,12 +124,14 @@ module _ (n N h : ℕ) (rows lambda delta : List ℕ) where
   }
 
 -- what the job leaves
-module _ (n N h : ℕ) (rows lambda delta table : List ℕ) (found : List (List ℕ)) (found-sums : List ℤ) where
+module _ (P : Folded) (table : List ℕ) (found : List (List ℕ)) (found-sums : List ℤ) where
+  open Folded P using (h)
+
   abbrev verdict : Verdict
-  verdict = checkLent (ofParts n N h rows lambda delta) table
+  verdict = checkLent P table
 
   -- refused, counts and sums are as found
-  pub census-refused : (r : Refusal) → refusalOf r ≡ verdict → CensusLeaves (ofParts n N h rows lambda delta) verdict found found-sums found found-sums
+  pub census-refused : (r : Refusal) → refusalOf r ≡ verdict → CensusLeaves P verdict found found-sums found found-sums
   census-refused r e =
       let x = refusal-refuses r in
       let f : verdict ≡ refused (x .number) (x .level) (x .involution) (x .dart) = sym e ∙ x .is in
@@ -136,16 +139,16 @@ module _ (n N h : ℕ) (rows lambda delta table : List ℕ) (found : List (List 
 
   -- accepted, the census
   module _ (e : accepted ≡ verdict) where
-    pub accepts : Accepted (ofParts n N h rows lambda delta) table
-    accepts = check-accepts (ofParts n N h rows lambda delta) table (sym e)
+    pub accepts : Accepted P table
+    accepts = check-accepts P table (sym e)
 
     -- the table of the check serves the first level
-    pub left-accepted : (left : List ℕ) → left ≡ checkLeaves (ofParts n N h rows lambda delta) table → Accepted (ofParts n N h rows lambda delta) left
-    left-accepted left q = rw (q ∙ accepted-table (ofParts n N h rows lambda delta) table (sym e)) (table-accepted n N h rows lambda delta table accepts h (omega arith))
+    pub left-accepted : (left : List ℕ) → left ≡ checkLeaves P table → Accepted P left
+    left-accepted left q = rw (q ∙ accepted-table P table (sym e)) (table-accepted P table accepts h (omega arith))
 
     -- the level that is climbed to last is that of the check
-    pub left-table : (after : List ℕ) → after ≡ levelTable (entry N rows) n N h (each lambda) (each delta) h → after ≡ checkLeaves (ofParts n N h rows lambda delta) table
-    left-table after q = q ∙ sym (accepted-table (ofParts n N h rows lambda delta) table (sym e))
+    pub left-table : (after : List ℕ) → after ≡ tableAt P h → after ≡ checkLeaves P table
+    left-table after q = q ∙ sym (accepted-table P table (sym e))
 
-    pub census-left : (counts : List (List ℕ)) (sums : List ℤ) → Counted n N h rows lambda delta counts (h + 1) → Summed counts sums → CensusLeaves (ofParts n N h rows lambda delta) verdict found found-sums counts sums
-    census-left counts sums s w = let f : verdict ≡ accepted = sym e in rw f (counted-census n N h rows lambda delta table accepts counts s sums w)
+    pub census-left : (counts : List (List ℕ)) (sums : List ℤ) → Counted P counts (h + 1) → Summed counts sums → CensusLeaves P verdict found found-sums counts sums
+    census-left counts sums s w = let f : verdict ≡ accepted = sym e in rw f (counted-census P table accepts counts s sums w)

@@ -11,7 +11,7 @@ use Rattle.maps.specs.Map.{Involutions}
 use Rattle.maps.specs.Cell.{Cell}
 use Rattle.maps.specs.Table.{entry, each}
 use Rattle.maps.specs.Explicit.{present}
-use Rattle.maps.specs.Folded.{survives, marks, level}
+use Rattle.maps.specs.Folded.{survives, marks, level, Folded, base, lambdaOf, deltaOf}
 use Rattle.maps.specs.Census.{Lowest, CellCount, alternating, countAt, sumAt}
 use Rattle.orbits.specs.Orbits.{Closed}
 use Rattle.orbits.specs.Explicit.{but}
@@ -41,12 +41,14 @@ pub record Met (a : Involutions) (n N i : ℕ) (start : ℕ → Type 0) (within 
 unfoldable pub zeroed : List (List ℕ)
 zeroed = replicate 33 (replicate 5 0)
 
-module _ (n N h : ℕ) (rows lambda delta : List ℕ) where
+module _ (f : Folded) where
+  open Folded f using (n, N, h)
+
   -- the counts of the levels below k, in 33 rows of five; all other places are 0
   pub record Counted (counts : List (List ℕ)) (k : ℕ) : Type 0 where
     pub rows-long : length counts ≡ 33
     pub row-long : (l : ℕ) → l < 33 → length (getD counts l []) ≡ 5
-    pub cells : (l i : ℕ) → l < k → i ≤ n → CellCount (level (entry N rows) n N (marks h (each lambda) (each delta)) l) n N (survives (each lambda) l) i (countAt counts l i)
+    pub cells : (l i : ℕ) → l < k → i ≤ n → CellCount (level (base f) n N (marks h (lambdaOf f) (deltaOf f)) l) n N (survives (lambdaOf f) l) i (countAt counts l i)
     pub unused : (l i : ℕ) → l < 33 → i < 5 → (k ≤ l) ⊎ (n < i) → countAt counts l i ≡ 0
 
 -- 33 rows of five counts, none above 4,096

@@ -12,7 +12,7 @@ ghost use Rattle.counting.specs.Counts.{LevelCounted};
 
 // How many cells of one dimension. Darts come in rising order, so one that no cell counted before it has is the lowest of its own.
 fn count_cells(n: Dim, darts: u16, table: &[u16], dimension: Dim) -> u16
-    requires { ⌜ ExplicitLevel (n .0) darts (now table) × (dimension .0 ≤ n .0) ⌝ }
+    requires { ⌜ ExplicitLevel (n .0) darts (now table) × (1 ≤ n .0) × (dimension .0 ≤ n .0) ⌝ }
     ensures { λ r. ⌜ CellCount (entry darts (now (table .entry))) (n .0) darts (present darts (now (table .entry))) (dimension .0) r ⌝ }
 {
     let choice = orbits::all_but(dimension);
@@ -38,7 +38,7 @@ fn count_cells(n: Dim, darts: u16, table: &[u16], dimension: Dim) -> u16
 
 // The number of cells of each dimension, 0 above n.
 pub(crate) fn count_level(n: Dim, darts: u16, table: &[u16]) -> [u16; MOST_ROWS]
-    requires { ⌜ ExplicitLevel (n .0) darts (now table) ⌝ }
+    requires { ⌜ ExplicitLevel (n .0) darts (now table) × (1 ≤ n .0) ⌝ }
     ensures { λ r. ⌜ LevelCounted (n .0) darts (now (table .entry)) r ⌝ }
 {
     let mut row = [0u16; MOST_ROWS];

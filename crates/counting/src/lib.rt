@@ -56,7 +56,7 @@ fn count_levels(
     table: &mut [u16],
 ) -> [[u16; MOST_ROWS]; LEVELS]
     requires { ⌜ Accepted (lent sizes rows lambda delta) (now table) ⌝ }
-    ensures counted { λ r. ⌜ Counted (sizes .n .0) (sizes .darts) (sizes .h .0) (now (rows .entry)) (now (lambda .entry)) (now (delta .entry)) r (sizes .h .0 + 1) ⌝ }
+    ensures counted { λ r. ⌜ Counted (lent sizes (rows .entry) (lambda .entry) (delta .entry)) r (sizes .h .0 + 1) ⌝ }
     ensures table_left { λ _. ⌜ now (table .exit) ≡ tableAt (lent sizes (rows .entry) (lambda .entry) (delta .entry)) (sizes .h .0) ⌝ }
 {
     let mut head = [ABSENT; HEADS];

@@ -11,15 +11,15 @@ use Rattle.maps.specs.Verdict.{accepted, _then_, scan}
 use Rattle.maps.specs.Map.{Involutions, Valid}
 use Rattle.maps.specs.Mark.{isMark, stay}
 use Rattle.maps.specs.Kernel.{Kernel}
-use Rattle.maps.specs.Table.{entry, each, listed}
-use Rattle.maps.specs.Folded.{On, survives, refusedMarks, marks, addΛ, addΔ, foldΛ, foldΔ, level, levelTable, ofParts, Folded}
+use Rattle.maps.specs.Table.{each, listed}
+use Rattle.maps.specs.Folded.{On, survives, refusedMarks, marks, addΛ, addΔ, foldΛ, foldΔ, level, levelTable, Folded, base, lambdaOf, deltaOf}
 use Rattle.maps.specs.MarkRow.{Row}
 use Rattle.maps.specs.Pyramid.{Pyramid}
 use Rattle.maps.specs.Check.{at8, check8, checkMap, checkKernel, checkKernels, checkPyramid}
 use Rattle.maps.specs.Sizes.{number1, number2, number3, number4, hasLength, sizes}
-use Rattle.maps.specs.CheckPyramid.{leftBehind}
+use Rattle.maps.specs.CheckPyramid.{leftBehind, tableAt}
 use Rattle.maps.specs.AddLevel.{refusedMark, atRow8, number20, addLent, addLambda, addDelta, addLeaves}
-use Rattle.maps.specs.Readded.{rowBack, lambdaUpto, deltaUpto, Readded}
+use Rattle.maps.specs.Readded.{rowBack, lowest, Readded}
 use Rattle.laws.proofs.Verdicts.{then-accepted, when-accepted, scan-accepted, scan-all}
 use Rattle.laws.proofs.Sizes.{Sized, sizes-sized, lengths-exact}
 use Rattle.laws.proofs.Tables.{length-listed, getD-listed, listed-of, listed-same, explicit-same}
@@ -77,13 +77,13 @@ module _ (P : Folded) (row table : List ℕ) (e : addLent P row table ≡ accept
   open Folded P using (n, N, h, rows, lambda, delta)
 
   abbrev a : Involutions
-  a = entry N rows
+  a = base P
 
   abbrev Λ : ℕ → ℕ
-  Λ = each lambda
+  Λ = lambdaOf P
 
   abbrev Δ : ℕ → ℕ
-  Δ = each delta
+  Δ = deltaOf P
 
   abbrev mark : ℕ → ℕ
   mark = each row
@@ -179,30 +179,27 @@ module _ (a : Involutions) (n N h : ℕ) (Λ Δ : ℕ → ℕ) (y : Pyramid a n 
   })
 
 -- Adding the rows that were read back, one after the other, to the base: each is accepted, and gives the Λ, Δ and table of that height.
-module _ (P : Folded) (y : Pyramid (entry (P .N) (P .rows)) (P .n) (P .N) (P .h) (each (P .lambda)) (each (P .delta))) where
+module _ (P : Folded) (y : Pyramid (base P) (P .n) (P .N) (P .h) (lambdaOf P) (deltaOf P)) where
   open Folded P using (n, N, h, rows, lambda, delta)
 
-  pub whole-height : length lambda ≡ N → length delta ≡ N → (lambdaUpto n N h lambda delta h ≡ lambda) × (deltaUpto n N h lambda delta h ≡ delta)
+  pub whole-height : length lambda ≡ N → length delta ≡ N → (lowest P h .lambda ≡ lambda) × (lowest P h .delta ≡ delta)
   whole-height e f = (
-    sym (listed-of (foldΛ n (marks h (each lambda) (each delta)) h) N lambda e (λ d ld. sym (folded-back n h (each lambda) (each delta) (y .dimension) d (y .allowed d ld) .0))),
-    sym (listed-of (foldΔ n (marks h (each lambda) (each delta)) h) N delta f (λ d ld. sym (folded-back n h (each lambda) (each delta) (y .dimension) d (y .allowed d ld) .1))),
+    sym (listed-of (foldΛ n (marks h (lambdaOf P) (deltaOf P)) h) N lambda e (λ d ld. sym (folded-back n h (lambdaOf P) (deltaOf P) (y .dimension) d (y .allowed d ld) .0))),
+    sym (listed-of (foldΔ n (marks h (lambdaOf P) (deltaOf P)) h) N delta f (λ d ld. sym (folded-back n h (lambdaOf P) (deltaOf P) (y .dimension) d (y .allowed d ld) .1))),
   )
 
   module _ (sized : sizes n N h ≡ accepted) (long : length rows ≡ suc n * N) (k : ℕ) (z : k < h) (table : List ℕ) (table-long : length table ≡ suc n * N) where
-    abbrev a₁ : Involutions
-    a₁ = entry N rows
-
     abbrev ks : ℕ → ℕ → ℕ
-    ks = marks h (each lambda) (each delta)
+    ks = marks h (lambdaOf P) (deltaOf P)
 
     abbrev L : ℕ → ℕ
-    L = each (lambdaUpto n N h lambda delta k)
+    L = lambdaOf (lowest P k)
 
     abbrev D : ℕ → ℕ
-    D = each (deltaUpto n N h lambda delta k)
+    D = deltaOf (lowest P k)
 
     abbrev R : ℕ → ℕ
-    R = each (rowBack N h lambda delta k)
+    R = each (rowBack P k)
 
     sameL : (d : ℕ) → d < N → foldΛ n ks k d ≡ L d
     sameL d ld = sym (getD-listed (foldΛ n ks k) N d 0 ld)
@@ -213,78 +210,78 @@ module _ (P : Folded) (y : Pyramid (entry (P .N) (P .rows)) (P .n) (P .N) (P .h)
     sameR : (d : ℕ) → d < N → ks k d ≡ R d
     sameR d ld = sym (getD-listed (ks k) N d 0 ld)
 
-    F : Folds a₁ n N k ks
-    F = folded a₁ n N h (each lambda) (each delta) y k (omega arith)
+    F : Folds (base P) n N k ks
+    F = folded (base P) n N h (lambdaOf P) (deltaOf P) y k (omega arith)
 
-    below : Pyramid a₁ n N k L D
-    below = pyramid-same a₁ n N k (foldΛ n ks k) (foldΔ n ks k) L D sameL sameD (F .pyramid)
+    below : Pyramid (base P) n N k L D
+    below = pyramid-same (base P) n N k (foldΛ n ks k) (foldΔ n ks k) L D sameL sameD (F .pyramid)
 
     row-lists : Row n N k L R
     row-lists =
-        let r = fold-row a₁ n N h (each lambda) (each delta) y k z in
+        let r = fold-row (base P) n N h (lambdaOf P) (deltaOf P) y k z in
         record {
           top = λ d ld q. sym (sameL d ld) ∙ r .top d ld (rw (sameR d ld) q);
           rest = λ d ld q. sym (sameR d ld) ∙ r .rest d ld (rw (sameR d ld) q);
         }
 
     -- the level of the folded rows is the pyramid's own
-    level-is : (i d : ℕ) → i ≤ n → On N (each lambda) k d → level a₁ n N ks k i d ≡ level a₁ n N (marks k L D) k i d
+    level-is : (i d : ℕ) → i ≤ n → On N (lambdaOf P) k d → level (base P) n N ks k i d ≡ level (base P) n N (marks k L D) k i d
     level-is i d li o =
-        let o′ : On N (foldΛ n ks k) k d = (o .0, rw (fold-at a₁ n N h (each lambda) (each delta) y k d (omega arith) (o .0), le-ltb (each lambda d) k (o .1)) (omega arith)) in
-        sym (F .maps k (omega arith) i d li o′) ∙ levels-same a₁ n N k (foldΛ n ks k) (foldΔ n ks k) L D sameL sameD (F .pyramid) k (omega arith) i d li o′
+        let o′ : On N (foldΛ n ks k) k d = (o .0, rw (fold-at (base P) n N h (lambdaOf P) (deltaOf P) y k d (omega arith) (o .0), le-ltb (lambdaOf P d) k (o .1)) (omega arith)) in
+        sym (F .maps k (omega arith) i d li o′) ∙ levels-same (base P) n N k (foldΛ n ks k) (foldΔ n ks k) L D sameL sameD (F .pyramid) k (omega arith) i d li o′
 
-    on-lists : (d : ℕ) → On N L k d → On N (each lambda) k d
-    on-lists d o = on-fold a₁ n N h (each lambda) (each delta) y k d (omega arith) (on-same a₁ n N k (foldΛ n ks k) (foldΔ n ks k) L D sameL sameD (F .pyramid) k d o)
+    on-lists : (d : ℕ) → On N L k d → On N (lambdaOf P) k d
+    on-lists d o = on-fold (base P) n N h (lambdaOf P) (deltaOf P) y k d (omega arith) (on-same (base P) n N k (foldΛ n ks k) (foldΔ n ks k) L D sameL sameD (F .pyramid) k d o)
 
-    kernel-lists : Kernel (level a₁ n N (marks k L D) k) n (On N L k) R
+    kernel-lists : Kernel (level (base P) n N (marks k L D) k) n (On N L k) R
     kernel-lists =
-        kernel-same (level a₁ n N ks k) (level a₁ n N (marks k L D) k) n (On N (each lambda) k) (On N L k) (ks k) R (level-valid a₁ n N h (each lambda) (each delta) y k (omega arith)) (y .kernel k z) level-is (λ d o. sameR d (o .0)) on-lists
+        kernel-same (level (base P) n N ks k) (level (base P) n N (marks k L D) k) n (On N (lambdaOf P) k) (On N L k) (ks k) R (level-valid (base P) n N h (lambdaOf P) (deltaOf P) y k (omega arith)) (y .kernel k z) level-is (λ d o. sameR d (o .0)) on-lists
 
-    refused-none : (d : ℕ) → d < N → refusedMark n k (each (lambdaUpto n N h lambda delta k)) (each (rowBack N h lambda delta k)) d ≡ false
+    refused-none : (d : ℕ) → d < N → refusedMark n k L R d ≡ false
     refused-none d ld = go (isMark n (R d)) refl
       where
-        go : (x : Bool) → isMark n (R d) ≡ x → refusedMark n k (each (lambdaUpto n N h lambda delta k)) (each (rowBack N h lambda delta k)) d ≡ false
+        go : (x : Bool) → isMark n (R d) ≡ x → refusedMark n k L R d ≡ false
         go true q = rw (q, eq-eqb (L d) k (row-lists .top d ld q))
         go false q = rw (q, eq-eqb (R d) stay (row-lists .rest d ld q))
 
-    verdict : addLent (ofParts n N k rows (lambdaUpto n N h lambda delta k) (deltaUpto n N h lambda delta k)) (rowBack N h lambda delta k) table ≡ accepted
+    verdict : addLent (lowest P k) (rowBack P k) table ≡ accepted
     unfolding addLent number4 number20 atRow8
     verdict =
         let s = sizes-sized n N h sized in
-        let c = check-parts a₁ n N k L D (pyramid-check a₁ n N k L D (y .dimension) below) in
+        let c = check-parts (base P) n N k L D (pyramid-check (base P) n N k L D (y .dimension) below) in
         rw (
           sizes-lower n N h k (omega arith) sized,
           eq-eqb (length rows) (suc n * N) long,
-          eq-eqb (length (lambdaUpto n N h lambda delta k)) N (length-listed (foldΛ n ks k) N),
-          eq-eqb (length (deltaUpto n N h lambda delta k)) N (length-listed (foldΔ n ks k) N),
-          eq-eqb (length (rowBack N h lambda delta k)) N (length-listed (ks k) N),
+          eq-eqb (length (lowest P k .lambda)) N (length-listed (foldΛ n ks k) N),
+          eq-eqb (length (lowest P k .delta)) N (length-listed (foldΔ n ks k) N),
+          eq-eqb (length (rowBack P k)) N (length-listed (ks k) N),
           eq-eqb (length table) (suc n * N) table-long,
           ne-eqb k 32 (λ e. omega arith),
           c .0,
           c .1,
-          scan-all N (atRow8 n k (each (lambdaUpto n N h lambda delta k)) (each (rowBack N h lambda delta k))) (λ d ld. rw (refused-none d ld)),
+          scan-all N (atRow8 n k L R) (λ d ld. rw (refused-none d ld)),
           c .2,
-          sound-kernel (level a₁ n N (marks k L D) k) n N R k (On N L k) (level-valid a₁ n N k L D below k (omega arith)) (λ d o. o .0) (λ d ld q. (ld, omega (arith, row-lists .top d ld q))) kernel-lists,
+          sound-kernel (level (base P) n N (marks k L D) k) n N R k (On N L k) (level-valid (base P) n N k L D below k (omega arith)) (λ d o. o .0) (λ d ld q. (ld, omega (arith, row-lists .top d ld q))) kernel-lists,
         )
 
-    F′ : Folds a₁ n N (suc k) ks
-    F′ = folded a₁ n N h (each lambda) (each delta) y (suc k) z
+    F′ : Folds (base P) n N (suc k) ks
+    F′ = folded (base P) n N h (lambdaOf P) (deltaOf P) y (suc k) z
 
-    survives-fold : (d : ℕ) → d < N → survives (foldΛ n ks (suc k)) (suc k) d ≡ survives (each lambda) (suc k) d
-    survives-fold d ld = rw (fold-at a₁ n N h (each lambda) (each delta) y (suc k) d z ld) (go (ltb (each lambda d) (suc k)) refl)
+    survives-fold : (d : ℕ) → d < N → survives (foldΛ n ks (suc k)) (suc k) d ≡ survives (lambdaOf P) (suc k) d
+    survives-fold d ld = rw (fold-at (base P) n N h (lambdaOf P) (deltaOf P) y (suc k) d z ld) (go (ltb (lambdaOf P d) (suc k)) refl)
       where
-        go : (x : Bool) → ltb (each lambda d) (suc k) ≡ x → not (ltb (cond (ltb (each lambda d) (suc k)) (each lambda d) (suc k)) (suc k)) ≡ not (ltb (each lambda d) (suc k))
+        go : (x : Bool) → ltb (lambdaOf P d) (suc k) ≡ x → not (ltb (cond (ltb (lambdaOf P d) (suc k)) (lambdaOf P d) (suc k)) (suc k)) ≡ not (ltb (lambdaOf P d) (suc k))
         go true q = rw (q, q)
         go false q = rw (q, le-ltb (suc k) (suc k) (omega arith))
 
-    tables-next : levelTable a₁ n N (suc k) (addΛ n k L R) (addΔ n D R) (suc k) ≡ levelTable a₁ n N h (each lambda) (each delta) (suc k)
+    tables-next : levelTable (base P) n N (suc k) (addΛ n k L R) (addΔ n D R) (suc k) ≡ tableAt P (suc k)
     unfolding foldΛ foldΔ
     tables-next =
-        sym (table-same a₁ n N (suc k) (foldΛ n ks (suc k)) (foldΔ n ks (suc k)) (addΛ n k L R) (addΔ n D R) (λ d ld. rw (sameL d ld, sameR d ld)) (λ d ld. rw (sameD d ld, sameR d ld)) (F′ .pyramid) (suc k) (omega arith))
-        ∙ explicit-same (level a₁ n N (marks (suc k) (foldΛ n ks (suc k)) (foldΔ n ks (suc k))) (suc k)) (level a₁ n N ks (suc k)) n N (survives (foldΛ n ks (suc k)) (suc k)) (survives (each lambda) (suc k)) survives-fold
+        sym (table-same (base P) n N (suc k) (foldΛ n ks (suc k)) (foldΔ n ks (suc k)) (addΛ n k L R) (addΔ n D R) (λ d ld. rw (sameL d ld, sameR d ld)) (λ d ld. rw (sameD d ld, sameR d ld)) (F′ .pyramid) (suc k) (omega arith))
+        ∙ explicit-same (level (base P) n N (marks (suc k) (foldΛ n ks (suc k)) (foldΔ n ks (suc k))) (suc k)) (level (base P) n N ks (suc k)) n N (survives (foldΛ n ks (suc k)) (suc k)) (survives (lambdaOf P) (suc k)) survives-fold
         (λ i d li ld q. F′ .maps (suc k) (omega arith) i d li (ld, ltb-false (foldΛ n ks (suc k) d) (suc k) (not-true (ltb (foldΛ n ks (suc k) d) (suc k)) (survives-fold d ld ∙ q))))
 
-    pub readded : Readded n N h rows lambda delta k table
+    pub readded : Readded P k table
     unfolding addLambda addDelta addLeaves leftBehind foldΛ foldΔ
     readded = record {
       verdict = verdict;

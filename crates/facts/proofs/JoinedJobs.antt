@@ -10,8 +10,8 @@ use borrow.Author.Tests.{lt-leb, leb-false, ltb-true, ltb-false, le-ltb}
 use Rattle.maps.specs.Verdict.{Verdict, accepted, refused, when, _then_}
 use Rattle.maps.specs.Map.{Involutions}
 use Rattle.maps.specs.Kernel.{Kernel}
-use Rattle.maps.specs.Table.{entry, each, listed}
-use Rattle.maps.specs.Folded.{On, marks, level, ofParts, Folded}
+use Rattle.maps.specs.Table.{each, listed}
+use Rattle.maps.specs.Folded.{On, marks, level, Folded, base, lambdaOf, deltaOf, ofParts}
 use Rattle.maps.specs.Pyramid.{Pyramid}
 use Rattle.maps.specs.Check.{checkMap, check8, check9, check10, checkKernel, kernelAt, checkKernels, checkPyramid}
 use Rattle.maps.specs.CheckPyramid.{checkLent}
@@ -86,71 +86,68 @@ each-joined N lambda l long = fun-ext (λ d. go d (ltb d N) refl)
         let none : each lambda d ≡ 0 = List·getD-eq-default lambda 0 (omega (arith, long)) in
         List·getD-eq-default (listed (joinΛ l (each lambda)) N) 0 (omega (arith, length-listed (joinΛ l (each lambda)) N)) ∙ rw (none, le-ltb l 0 zero-le)
 
-module _ (P : Folded) where
+module _ (P : Folded) (table : List ℕ) (l : ℕ) where
   open Folded P using (n, N, h, rows, lambda, delta)
 
   -- What an accepted join means: the check had accepted, l+1 is below h, the joined kernel is one of level l; what is left in Λ is accepted again with the height that is left, and has the same levels up to l, and from l+2 upward under their new numbers.
-  pub record Joins (table : List ℕ) (l : ℕ) : Type 0 where
+  pub record Joins : Type 0 where
     pub checked : checkLent P table ≡ accepted
     pub low : suc l < h
-    pub joined : Joined (entry N rows) n N (h - 1) (each lambda) (each delta) l
-    pub left : (joinHeight P table l ≡ h - 1) × (each (joinLambda P table l) ≡ joinΛ l (each lambda))
+    pub joined : Joined (base P) n N (h - 1) (lambdaOf P) (deltaOf P) l
+    pub left : (joinHeight P table l ≡ h - 1) × (each (joinLambda P table l) ≡ joinΛ l (lambdaOf P))
     pub again : checkLent (ofParts n N (joinHeight P table l) rows (joinLambda P table l) delta) table ≡ accepted
 
--- the two tests before the joined kernel
-tests : (n N h : ℕ) (rows lambda delta table : List ℕ) (l : ℕ) → joinLent (ofParts n N h rows lambda delta) table l ≡ accepted
-    → (checkLent (ofParts n N h rows lambda delta) table ≡ accepted) × (suc l < h) × (checkKernel (level (entry N rows) n N (marks h (each lambda) (each delta)) l) n N (joinedRow (ofParts n N h rows lambda delta) l) l ≡ accepted)
-unfolding joinLent
-tests n N h rows lambda delta table l e =
-    let K = checkKernel (level (entry N rows) n N (marks h (each lambda) (each delta)) l) n N (joinedRow (ofParts n N h rows lambda delta) l) l in
-    let r = then-accepted (checkLent (ofParts n N h rows lambda delta) table) (when (leb h (suc l)) (refused 11 l 0 0) then K) e in
-    let s = then-accepted (when (leb h (suc l)) (refused 11 l 0 0)) K (r .1) in
-    (r .0, leb-false h (suc l) (when-accepted (leb h (suc l)) 11 l 0 0 (s .0)), s .1)
+  -- the two tests before the joined kernel
+  tests : joinLent P table l ≡ accepted → (checkLent P table ≡ accepted) × (suc l < h) × (checkKernel (level (base P) n N (marks h (lambdaOf P) (deltaOf P)) l) n N (joinedRow P l) l ≡ accepted)
+  unfolding joinLent
+  tests e =
+      let K = checkKernel (level (base P) n N (marks h (lambdaOf P) (deltaOf P)) l) n N (joinedRow P l) l in
+      let r = then-accepted (checkLent P table) (when (leb h (suc l)) (refused 11 l 0 0) then K) e in
+      let s = then-accepted (when (leb h (suc l)) (refused 11 l 0 0)) K (r .1) in
+      (r .0, leb-false h (suc l) (when-accepted (leb h (suc l)) 11 l 0 0 (s .0)), s .1)
 
-pub join-joins : (n N h : ℕ) (rows lambda delta table : List ℕ) (l : ℕ) → joinLent (ofParts n N h rows lambda delta) table l ≡ accepted → Joins (ofParts n N h rows lambda delta) table l
-unfolding joinHeight joinLambda
-join-joins n N h rows lambda delta table l e =
-    let t = tests n N h rows lambda delta table l e in
-    let p : Accepted (ofParts n N h rows lambda delta) table = check-accepts (ofParts n N h rows lambda delta) table (t .0) in
-    let up : suc (h - 1) ≡ h = omega (arith, t .1) in
-    let f = joinΛ l (each lambda) in
-    let j = verdict-joins (entry N rows) n N (h - 1) (each lambda) (each delta) (rw up (p .pyramid)) l (omega (arith, t .1)) (rw up (t .2)) in
-    let is = each-joined N lambda l (p .lambda-length) in
-    record {
-      checked = t .0;
-      low = t .1;
-      joined = j;
-      left = rw e (refl, is);
-      again = rw e (accepted-check (ofParts n N (h - 1) rows (listed f N) delta) table (record {
-        dimension = p .dimension;
-        darts = p .darts;
-        height = omega (arith, p .height);
-        rows-length = p .rows-length;
-        lambda-length = length-listed f N;
-        delta-length = p .delta-length;
-        table-length = p .table-length;
-        pyramid = rw is (j .pyramid);
-      }));
-    }
+  pub join-joins : joinLent P table l ≡ accepted → Joins
+  unfolding joinHeight joinLambda
+  join-joins e =
+      let t = tests e in
+      let p : Accepted P table = check-accepts P table (t .0) in
+      let up : suc (h - 1) ≡ h = omega (arith, t .1) in
+      let f = joinΛ l (lambdaOf P) in
+      let j = verdict-joins (base P) n N (h - 1) (lambdaOf P) (deltaOf P) (rw up (p .pyramid)) l (omega (arith, t .1)) (rw up (t .2)) in
+      let is = each-joined N lambda l (p .lambda-length) in
+      record {
+        checked = t .0;
+        low = t .1;
+        joined = j;
+        left = rw e (refl, is);
+        again = rw e (accepted-check (ofParts n N (h - 1) rows (listed f N) delta) table (record {
+          dimension = p .dimension;
+          darts = p .darts;
+          height = omega (arith, p .height);
+          rows-length = p .rows-length;
+          lambda-length = length-listed f N;
+          delta-length = p .delta-length;
+          table-length = p .table-length;
+          pyramid = rw is (j .pyramid);
+        }));
+      }
 
--- after an accepted check and with l+1 below h, the verdict is that of the joined kernel
-join-verdict : (n N h : ℕ) (rows lambda delta table : List ℕ) (l : ℕ) → checkLent (ofParts n N h rows lambda delta) table ≡ accepted → suc l < h
-    → joinLent (ofParts n N h rows lambda delta) table l ≡ checkKernel (level (entry N rows) n N (marks h (each lambda) (each delta)) l) n N (joinedRow (ofParts n N h rows lambda delta) l) l
-unfolding joinLent
-join-verdict n N h rows lambda delta table l e low = rw (e, lt-leb h (suc l) low)
+  -- after an accepted check and with l+1 below h, the verdict is that of the joined kernel
+  join-verdict : checkLent P table ≡ accepted → suc l < h → joinLent P table l ≡ checkKernel (level (base P) n N (marks h (lambdaOf P) (deltaOf P)) l) n N (joinedRow P l) l
+  unfolding joinLent
+  join-verdict e low = rw (e, lt-leb h (suc l) low)
 
--- It is refused exactly where the joined kernel is no kernel of level l: where it is one, it is accepted.
-pub kernel-joins : (n N h : ℕ) (rows lambda delta table : List ℕ) (l : ℕ) → checkLent (ofParts n N h rows lambda delta) table ≡ accepted → suc l < h
-    → Kernel (level (entry N rows) n N (marks h (each lambda) (each delta)) l) n (On N (each lambda) l) (joinedRow (ofParts n N h rows lambda delta) l) → joinLent (ofParts n N h rows lambda delta) table l ≡ accepted
-kernel-joins n N h rows lambda delta table l e low k =
-    let up : suc (h - 1) ≡ h = omega arith in
-    let y = check-accepts (ofParts n N h rows lambda delta) table e .pyramid in
-    join-verdict n N h rows lambda delta table l e low ∙ (rw up at (kernel-verdict (entry N rows) n N (h - 1) (each lambda) (each delta) (rw up y) l (omega arith) (rw up k)))
+  -- It is refused exactly where the joined kernel is no kernel of level l: where it is one, it is accepted.
+  pub kernel-joins : checkLent P table ≡ accepted → suc l < h
+      → Kernel (level (base P) n N (marks h (lambdaOf P) (deltaOf P)) l) n (On N (lambdaOf P) l) (joinedRow P l) → joinLent P table l ≡ accepted
+  kernel-joins e low k =
+      let up : suc (h - 1) ≡ h = omega arith in
+      let y = check-accepts P table e .pyramid in
+      join-verdict e low ∙ (rw up at (kernel-verdict (base P) n N (h - 1) (lambdaOf P) (deltaOf P) (rw up y) l (omega arith) (rw up k)))
 
--- The joined kernel is refused by 9 or not at all: number 10 never comes.
-pub join-nine : (n N h : ℕ) (rows lambda delta table : List ℕ) (l : ℕ) → checkLent (ofParts n N h rows lambda delta) table ≡ accepted → suc l < h
-    → joinLent (ofParts n N h rows lambda delta) table l ≡ check9 (level (entry N rows) n N (marks h (each lambda) (each delta)) l) n N (joinedRow (ofParts n N h rows lambda delta) l) l
-join-nine n N h rows lambda delta table l e low =
-    let up : suc (h - 1) ≡ h = omega arith in
-    let y = check-accepts (ofParts n N h rows lambda delta) table e .pyramid in
-    join-verdict n N h rows lambda delta table l e low ∙ (rw up at (nine-alone (entry N rows) n N (h - 1) (each lambda) (each delta) (rw up y) l (omega arith)))
+  -- The joined kernel is refused by 9 or not at all: number 10 never comes.
+  pub join-nine : checkLent P table ≡ accepted → suc l < h → joinLent P table l ≡ check9 (level (base P) n N (marks h (lambdaOf P) (deltaOf P)) l) n N (joinedRow P l) l
+  join-nine e low =
+      let up : suc (h - 1) ≡ h = omega arith in
+      let y = check-accepts P table e .pyramid in
+      join-verdict e low ∙ (rw up at (nine-alone (base P) n N (h - 1) (lambdaOf P) (deltaOf P) (rw up y) l (omega arith)))

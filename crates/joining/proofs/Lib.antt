@@ -1,3 +1,2 @@
 mod Pairs
-mod Climbs
 mod Whole

@@ -18,7 +18,7 @@ use Rattle.climbing.specs.Climb.{climbs}
 use Rattle.climbing.proofs.Verdicts.{Says, Late, says-then, says-more, kernel-late, kernels-late, late-found}
 use Rattle.checking.specs.Checked.{earlyOf}
 use Rattle.checking.proofs.PyramidCheck.{check-is, check-early}
-use Rattle.joining.specs.Climbed.{joinedVerdict, climbsJoined, climbJoinedLeaves}
+use Rattle.joined_kernels.specs.Climbed.{joinedVerdict, climbsJoined, climbJoinedLeaves}
 
 -- what a refusal leaves of what it left
 left-twice : (top : List ℕ) (levels : ℕ → List ℕ) (found : List ℕ) (v : Verdict) → leftBehind top levels found v ≡ leftBehind top levels (leftBehind top levels found v) v

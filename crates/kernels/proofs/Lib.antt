@@ -1,6 +1,7 @@
 pub mod Strung
 pub mod Places
 mod Tests
+mod Runs
 mod Clearing
 mod Links
 mod Relinks

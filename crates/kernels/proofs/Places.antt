@@ -4,14 +4,13 @@ use mathlib.Core.Bool.{Bool, true, false}
 use mathlib.Core.List.{List}
 use Prim.Native.Nat.{ℕ, suc, _+_, _*_, _/_, _%_, _≤_, _<_}
 use native.Mathlib.Omega.{arith}
-use native.Mathlib.Nat.{mul-le-mul-right}
 use lib.ListN.{length, set, length-set}
 use lib.Seq.{getD-set-same, getD-set-other}
 use lib.Arith.{digits-div, digits-mod}
 use lib.Dec.{eqb}
 use borrow.Author.Tests.{eqb-true, eqb-false}
 use Rattle.maps.specs.Table.{entry}
-use Rattle.laws.proofs.Tables.{in-table, table-size, next-row}
+use Rattle.laws.proofs.Tables.{in-table, table-size}
 use Rattle.answers.specs.Rows.{Rows}
 use Rattle.kernels.specs.Ready.{Place, TableIs}
 
@@ -20,12 +19,6 @@ pub place : {n N : ℕ} {table : List ℕ} → Rows n N table → (i d : ℕ) �
 place {n} {N} s i d li ld =
     let t = table-size n N i (s .dimension) (s .darts) li in
     record { darts = s .darts; dart = ld; inside = omega (arith, in-table n N i d li ld, s .exact); small = omega (arith, s .exact) }
-
--- a row lies in the table
-pub row-inside : {n N : ℕ} {table : List ℕ} → Rows n N table → (i : ℕ) → i ≤ n → i * N + N ≤ length table
-row-inside {n} {N} s i li =
-    let m : (i + 1) * N ≤ suc n * N = mul-le-mul-right N (omega arith) in
-    omega (arith, next-row i N, s .exact)
 
 -- a table of the same length has the same shape, and the same places
 pub shape-still : {n N : ℕ} {before after : List ℕ} → Rows n N before → length after ≡ length before → Rows n N after

@@ -21,7 +21,8 @@ use Rattle.facts.proofs.Agreement.{goOn-local, turns-local}
 use Rattle.kernels.specs.Strings.{kernelRow, First, Along, Marks}
 use Rattle.kernels.specs.Ready.{Place, Ready, Followed, left, relinked, firstOfLink, TableIs, Cleared, removedFrom}
 use Rattle.kernels.proofs.Strung.{in-kernel, mark-is}
-use Rattle.kernels.proofs.Links.{turnsAt, turnsTo, turns-next}
+use Rattle.kernels.specs.Relinked.{Relinking, Entering, RelinkTo, turnsAt, turnsTo}
+use Rattle.kernels.proofs.Links.{turns-next}
 use Rattle.kernels.proofs.Places.{place, shape-still, table-set}
 
 -- a dart that is not marked i is not passed; one that is, is
@@ -189,26 +190,6 @@ module _ (n N : ℕ) (mark : ℕ → ℕ) (before : List ℕ) (t k : ℕ) where
       go : (x : Bool) → cond x (goOn (entry N before) n mark N t (entry N before t k)) (entry N before t k) ≡ entry N before t k
       go false = refl
       go true = go-stays (entry N before) n mark t (entry N before t k) N q
-
--- each entry is as before or leads on past the marks, and does so if it led to a dart before d
-pub record Relinking (n N : ℕ) (mark : ℕ → ℕ) (before after : List ℕ) (d : ℕ) : Type 0 where
-  pub long : length after ≡ length before
-  pub either : (t k : ℕ) → k < N → (entry N after t k ≡ entry N before t k) ⊎ (entry N after t k ≡ relinked n N mark before t k)
-  pub passed : (t k : ℕ) → k < N → entry N before t k < N → entry N before t k < d → entry N after t k ≡ relinked n N mark before t k
-
--- a survivor that leads into the kernel by row t
-pub record Entering (n N : ℕ) (mark : ℕ → ℕ) (before : List ℕ) (t k : ℕ) : Type 0 where
-  pub row : t ≤ n
-  pub there : There N (present N before) k
-  pub stays : isMark n (mark k) ≡ false
-  pub enters : marked (entry N before) n mark t (entry N before t k) ≡ true
-
--- a link is set if it passes a dart before d first or last, and else both its ends are as before; and d is marked, if it is a dart
-pub record RelinkTo (n N : ℕ) (mark : ℕ → ℕ) (before after : List ℕ) (d : ℕ) : Type 0 where
-  pub here : d < N → isMark n (mark d) ≡ true
-  pub table : Relinking n N mark before after d
-  pub set-back : (t k : ℕ) → Entering n N mark before t k → entry N before t (removal (entry N before) n mark N t k) < d → entry N after t k ≡ relinked n N mark before t k
-  pub unset : (t k : ℕ) → Entering n N mark before t k → d ≤ entry N before t k → d ≤ entry N before t (removal (entry N before) n mark N t k) → entry N after t k ≡ entry N before t k
 
 -- an entry that need not lead on does already
 settled : {n N : ℕ} {mark : ℕ → ℕ} {before after : List ℕ} {d : ℕ} → Relinking n N mark before after d → (t k : ℕ) → k < N → relinked n N mark before t k ≡ entry N before t k → entry N after t k ≡ relinked n N mark before t k

@@ -15,26 +15,19 @@ use Rattle.laws.proofs.Verdicts.{scan-all, scan-first, scan-more}
 use Rattle.laws.proofs.Marks.{mark-byte}
 use Rattle.kernels.specs.Strings.{kernelRow, First, Strung}
 use Rattle.kernels.specs.Ready.{Tested}
+use Rattle.kernels.specs.Walked.{Walk, nine, ten}
 use Rattle.kernels.proofs.Strung.{mark-is}
 
--- A scan over all darts that visits those strung alone, where no other dart is refused: those before d are accepted, and d is one of them, if it is a dart.
-pub record Walk (n N l first : ℕ) (lambda delta next table : List ℕ) (v : ℕ → Verdict) (d : ℕ) : Type 0 where
-  pub tested : Tested n N (kernelRow lambda delta l) table
-  pub strung : Strung n N l first lambda delta next
-  pub free : (x : ℕ) → x < N → isMark n (kernelRow lambda delta l x) ≡ false → v x ≡ accepted
-  pub here : d < N → isMark n (kernelRow lambda delta l d) ≡ true
-  pub so-far : (x : ℕ) → x < d → x < N → v x ≡ accepted
+pub walk-start : {n N l first : ℕ} {lambda delta next table : List ℕ} {v : ℕ → Verdict} → Tested n N (kernelRow lambda delta l) table → Strung n N l first lambda delta next → ((x : ℕ) → x < N → isMark n (kernelRow lambda delta l x) ≡ false → v x ≡ accepted) → Walk n N l lambda delta next table v first
+walk-start t w free = let s = w .string .start in record { tested = t; marks = w .marks; onward = w .string .onward; free = free; here = s .here; so-far = λ x lx lN. free x lN (s .none x (omega arith) lx lN) }
 
-pub walk-start : {n N l first : ℕ} {lambda delta next table : List ℕ} {v : ℕ → Verdict} → Tested n N (kernelRow lambda delta l) table → Strung n N l first lambda delta next → ((x : ℕ) → x < N → isMark n (kernelRow lambda delta l x) ≡ false → v x ≡ accepted) → Walk n N l first lambda delta next table v first
-walk-start t w free = let s = w .string .start in record { tested = t; strung = w; free = free; here = s .here; so-far = λ x lx lN. free x lN (s .none x (omega arith) lx lN) }
-
-module _ {n N l first : ℕ} {lambda delta next table : List ℕ} {v : ℕ → Verdict} {d : ℕ} (w : Walk n N l first lambda delta next table v d) where
+module _ {n N l : ℕ} {lambda delta next table : List ℕ} {v : ℕ → Verdict} {d : ℕ} (w : Walk n N l lambda delta next table v d) where
   pub walk-all : N ≤ d → scan N v ≡ accepted
   walk-all m = scan-all N v (λ x lx. w .so-far x (omega arith) lx)
 
   module _ (ld : d < N) where
     pub walk-mark : each delta d ≡ kernelRow lambda delta l d
-    walk-mark = mark-is (w .strung .marks) (w .tested .shape .dimension) d ld (w .here ld)
+    walk-mark = mark-is (w .marks) (w .tested .shape .dimension) d ld (w .here ld)
 
     pub walk-marked : {m : ℕ} → m ≡ each delta d → (isMark n m ≡ true) × (m < stay)
     walk-marked {m} is =
@@ -46,20 +39,20 @@ module _ {n N l first : ℕ} {lambda delta next table : List ℕ} {v : ℕ → V
     walk-inside t lt = w .tested .sound .valid .inside t d lt (ld, w .tested .marked d ld (w .here ld)) .0
 
     pub walk-rooms : (d < length delta) × (d < 4096)
-    walk-rooms = (omega (arith, w .strung .marks .delta-long), omega (arith, w .tested .shape .darts))
+    walk-rooms = (omega (arith, w .marks .delta-long), omega (arith, w .tested .shape .darts))
 
     pub walk-breach : (k m i x : ℕ) → v d ≡ refused k m i x → scan N v ≡ refused k m i x
     walk-breach k m i x e = scan-first N v d k m i x ld (scan-all d v (λ y ly. w .so-far y ly (omega arith))) e
 
     module _ {e : ℕ} (is : e ≡ each next d) where
       onward : First (λ x. isMark n (kernelRow lambda delta l x)) N (d + 1) e
-      onward = rw is (w .strung .string .onward d ld (w .here ld))
+      onward = rw is (w .onward d ld (w .here ld))
 
       pub walk-further : d < e
       walk-further = omega (arith, onward .after)
 
-      pub walk-next : v d ≡ accepted → Walk n N l first lambda delta next table v e
-      walk-next own = record { tested = w .tested; strung = w .strung; free = w .free; here = onward .here; so-far = λ x lx lN. go x lx lN (ltb x d) refl (eqb x d) refl }
+      pub walk-next : v d ≡ accepted → Walk n N l lambda delta next table v e
+      walk-next own = record { tested = w .tested; marks = w .marks; onward = w .onward; free = w .free; here = onward .here; so-far = λ x lx lN. go x lx lN (ltb x d) refl (eqb x d) refl }
         where
           go : (x : ℕ) → x < e → x < N → (y : Bool) → ltb x d ≡ y → (z : Bool) → eqb x d ≡ z → v x ≡ accepted
           go x lx lN true q z r = w .so-far x (ltb-true x d q) lN
@@ -70,24 +63,17 @@ module _ {n N l first : ℕ} {lambda delta next table : List ℕ} {v : ℕ → V
               w .free x lN (onward .none x (omega arith) lx lN)
 
 module _ (n N l : ℕ) (mark : ℕ → ℕ) (table : List ℕ) where
-  -- number 9 of dart d, and number 10
-  abbrev pub nine : ℕ → Verdict
-  nine d = scan (suc n) (at9 (entry N table) n mark l d)
-
-  abbrev pub ten : ℕ → Verdict
-  ten d = at10 (entry N table) n mark l d
-
   -- a dart that is not marked is not refused
-  pub nine-free : (x : ℕ) → x < N → isMark n (mark x) ≡ false → nine x ≡ accepted
+  pub nine-free : (x : ℕ) → x < N → isMark n (mark x) ≡ false → nine n N l mark table x ≡ accepted
   unfolding at9
   nine-free x lx q = scan-all (suc n) (at9 (entry N table) n mark l x) (λ j lj. rw q)
 
-  pub ten-free : (x : ℕ) → x < N → isMark n (mark x) ≡ false → ten x ≡ accepted
+  pub ten-free : (x : ℕ) → x < N → isMark n (mark x) ≡ false → ten n N l mark table x ≡ accepted
   unfolding at10
   ten-free x lx q = rw q
 
 -- dart d, whose mark is m
-module _ {n N l first : ℕ} {lambda delta next table : List ℕ} {d : ℕ} (w : Walk n N l first lambda delta next table (nine n N l (kernelRow lambda delta l) table) d) (ld : d < N) (m : ℕ) (is : m ≡ each delta d) where
+module _ {n N l : ℕ} {lambda delta next table : List ℕ} {d : ℕ} (w : Walk n N l lambda delta next table (nine n N l (kernelRow lambda delta l) table) d) (ld : d < N) (m : ℕ) (is : m ≡ each delta d) where
   abbrev row : ℕ → ℕ
   row = kernelRow lambda delta l
 
@@ -95,7 +81,7 @@ module _ {n N l first : ℕ} {lambda delta next table : List ℕ} {d : ℕ} (w :
   abbrev out : ℕ → Bool
   out j = not (eqb j (between m .0)) && not (eqb (row (entry N table j d)) m)
 
-  at-nine : (j : ℕ) → at9 (entry N table) n row l d j ≡ when (out j) (refused 9 l j d)
+  pub at-nine : (j : ℕ) → at9 (entry N table) n row l d j ≡ when (out j) (refused 9 l j d)
   unfolding at9
   at-nine j = rw (is ∙ walk-mark w ld, w .here ld)
 
@@ -103,14 +89,14 @@ module _ {n N l first : ℕ} {lambda delta next table : List ℕ} {d : ℕ} (w :
     pub nine-stays : out j ≡ false → scan (j + 1) (at9 (entry N table) n row l d) ≡ accepted
     nine-stays e = scan-more (at9 (entry N table) n row l d) j so-far (at-nine j ∙ rw e)
 
-    pub nine-passed : {e : ℕ} → j ≡ n + 1 → e ≡ each next d → Walk n N l first lambda delta next table (nine n N l row table) e
+    pub nine-passed : {e : ℕ} → j ≡ n + 1 → e ≡ each next d → Walk n N l lambda delta next table (nine n N l row table) e
     nine-passed all next-is = let z : j ≡ suc n = omega arith in walk-next w ld next-is (rw z at so-far)
 
     pub nine-leaves : j ≤ n → out j ≡ true → refused 9 l j d ≡ check9 (entry N table) n N row l
     unfolding check9
     nine-leaves lj e = sym (walk-breach w ld 9 l j d (scan-first (suc n) (at9 (entry N table) n row l d) j 9 l j d (omega arith) so-far (at-nine j ∙ rw e)))
 
-module _ {n N l first : ℕ} {lambda delta next table : List ℕ} {d : ℕ} (w : Walk n N l first lambda delta next table (ten n N l (kernelRow lambda delta l) table) d) (ld : d < N) (m : ℕ) (is : m ≡ each delta d) where
+module _ {n N l : ℕ} {lambda delta next table : List ℕ} {d : ℕ} (w : Walk n N l lambda delta next table (ten n N l (kernelRow lambda delta l) table) d) (ld : d < N) (m : ℕ) (is : m ≡ each delta d) where
   -- does its own test fail
   abbrev fails : Bool
   fails = hasBeyond n m && differs (entry N table) (λ x. m) d
@@ -119,7 +105,7 @@ module _ {n N l first : ℕ} {lambda delta next table : List ℕ} {d : ℕ} (w :
   unfolding at10
   at-ten = rw (is ∙ walk-mark w ld, w .here ld)
 
-  pub ten-passed : {e : ℕ} → fails ≡ false → e ≡ each next d → Walk n N l first lambda delta next table (ten n N l (kernelRow lambda delta l) table) e
+  pub ten-passed : {e : ℕ} → fails ≡ false → e ≡ each next d → Walk n N l lambda delta next table (ten n N l (kernelRow lambda delta l) table) e
   ten-passed f next-is = walk-next w ld next-is (at-ten ∙ rw f)
 
   pub ten-refused : {i : ℕ} → fails ≡ true → i ≡ between m .1 → refused 10 l i d ≡ check10 (entry N table) n N (kernelRow lambda delta l) l

@@ -1,2 +1,4 @@
 pub mod Strings
 pub mod Ready
+pub mod Walked
+pub mod Relinked

@@ -1,7 +1,8 @@
 // One kernel, tested and removed in place on an explicit level. Each function says what it asks of its caller: the level is a valid map, and the kernel's darts are strung.
+mod fits; // fits.rt: numbers 9 and 10 with a yes or no
 mod removing; // removing.rt: a kernel removed in place
 mod strings; // strings.rt: the darts strung by kernel, and what is read of one
-mod testing; // testing.rt: numbers 9 and 10 of a kernel
+mod testing; // testing.rt: numbers 9 and 10 of a kernel, with the place
 
 use answers::Check;
 use answers::Dim;
@@ -10,7 +11,7 @@ use answers::ROOM;
 pub use removing::remove;
 pub use strings::HEADS;
 pub use strings::link;
-pub use testing::fitting;
+pub use testing::tested;
 pub use testing::whole;
 ghost use mathlib.Core.Path.{_≡_};
 ghost use Rattle.maps.specs.Check.{checkKernel};
@@ -39,10 +40,7 @@ pub fn step(
     ensures verdict { λ r. ⌜ verdictOf r ≡ checkKernel (mapOf kernel (table .entry)) (kernel .n .0) (kernel .darts) (rowOf kernel (lambda .entry) (delta .entry)) (kernel .level .0) ⌝ }
     ensures table_left { λ _. ⌜ now (table .exit) ≡ stepLeaves (kernel .n .0) (kernel .darts) (kernel .level .0) (rowOf kernel (lambda .entry) (delta .entry)) (now (table .entry)) ⌝ }
 {
-    if let Check::Refused(r) = whole(kernel, lambda, delta, next, table) {
-        return Check::Refused(r);
-    }
-    if let Check::Refused(r) = fitting(kernel, lambda, delta, next, table) {
+    if let Check::Refused(r) = tested(kernel, lambda, delta, next, table) {
         return Check::Refused(r);
     }
     remove(kernel, lambda, delta, next, table);

@@ -16,6 +16,7 @@ ghost use Rattle.maps.specs.Table.{entry, each};
 ghost use Rattle.answers.specs.Rows.{Rows};
 ghost use Rattle.kernels.specs.Strings.{Along, Strings, Marks, Strung};
 ghost use Rattle.kernels.specs.Ready.{rowOf, Place, Ready, Followed, pastMarks, turnsPast, turnsMade, LinksPast, Cleared, removedFrom};
+ghost use Rattle.kernels.specs.Relinked.{Midway, Relinks};
 
 // The entry of dart d in row i is stored.
 fn put(darts: usize, i: Dim, d: usize, entry: u16, table: &mut [u16])
@@ -78,7 +79,45 @@ fn follow(kernel: Kernel, lambda: &[u8], delta: &[u8], table: &[u16], start: Sta
     End { dart: e, turns }
 }
 
-// Survivors relinked, from the darts of kernel l: where one leads to a survivor by its mark's first row, the survivor is linked to the one past the marks. A survivor that no longer leads back has its link from the other end. The answer is how many turns were taken, over all links followed.
+// Survivors relinked, from the darts of kernel l along its string from one dart on, while they have its mark: where one leads to a survivor by its mark's first row, the survivor is linked to the one past the marks. A survivor that no longer leads back has its link from the other end. The answer is where that ends, and how many turns were taken. One mark at a time, so that its rows are found once.
+fn relink_alike(
+    kernel: Kernel,
+    lambda: &[u8],
+    delta: &[u8],
+    next: &[u16; ROOM],
+    start: usize,
+    table: &mut [u16],
+) -> End
+    requires { ⌜ (start < kernel .darts) × Midway kernel (now lambda) (now delta) (now next) (now table) start ⌝ }
+    ensures further { λ r. ⌜ start < r .dart ⌝ }
+    ensures relinked { λ r. ⌜ Relinks kernel (now (lambda .entry)) (now (delta .entry)) (now (next .entry)) (now (table .entry)) start (now (table .exit)) (r .dart) (r .turns) ⌝ }
+{
+    let darts = kernel.darts as usize;
+    let l = kernel.level;
+    let mark = answers::delta_at(delta, start);
+    let rows = answers::between(mark);
+    let i = rows.0;
+    let mut turns = 0;
+    let mut d = start;
+    while d < darts {
+        if !answers::same_mark(answers::delta_at(delta, d), mark) {
+            return End { dart: d, turns };
+        }
+        let b = at(darts, table, i, d);
+        if !removed(lambda, l, b) {
+            if at(darts, table, i, b) == d {
+                let from = Start { row: i, dart: d };
+                let end = follow(kernel, lambda, delta, table, from);
+                join(darts, i, b, end.dart, table);
+                turns = turns + end.turns;
+            }
+        }
+        d = next_of(next, d);
+    }
+    End { dart: d, turns }
+}
+
+// Survivors relinked, from all darts of the kernel. The answer is how many turns were taken, over all links followed.
 fn relink(
     kernel: Kernel,
     lambda: &[u8],
@@ -92,46 +131,60 @@ fn relink(
     ensures table_left { λ _. ⌜ LinksPast kernel (lambda .entry) (delta .entry) (table .entry) (table .exit) ⌝ }
 {
     let darts = kernel.darts as usize;
-    let l = kernel.level;
     let mut turns = 0;
     let mut d = kernel.first as usize;
     while d < darts {
-        let rows = answers::between(answers::delta_at(delta, d));
-        let i = rows.0;
-        let b = at(darts, table, i, d);
-        if !removed(lambda, l, b) {
-            if at(darts, table, i, b) == d {
-                let start = Start { row: i, dart: d };
-                let end = follow(kernel, lambda, delta, table, start);
-                join(darts, i, b, end.dart, table);
-                turns = turns + end.turns;
-            }
-        }
-        d = next_of(next, d);
+        let end = relink_alike(kernel, lambda, delta, next, d, table);
+        turns = turns + end.turns;
+        d = end.dart;
     }
     turns
 }
 
-// Row i cleared: 65,535 at the darts strung from the first on, whichever these are.
-fn clear_row(darts: usize, next: &[u16; ROOM], first: u16, i: Dim, table: &mut [u16])
-    requires { ⌜ Strings darts first (now next) × ((d : ℕ) → d < darts → Place darts (now table) (i .0) d) ⌝ }
-    ensures { λ _. ⌜ ((test : ℕ → Bool) → Along test darts first (now (next .entry)) → Cleared darts (λ t d. test d && eqb t (i .0)) (now (table .entry)) (now (table .exit))) ⌝ }
+// The entries of a dart cleared: 65,535 in every row.
+fn clear_dart(n: Dim, darts: usize, d: usize, table: &mut [u16])
+    requires { ⌜ Rows (n .0) darts (now table) × (d < darts) ⌝ }
+    ensures { λ _. ⌜ Cleared darts (λ t k. eqb k d && ltb t (n .0 + 1)) (now (table .entry)) (now (table .exit)) ⌝ }
+{
+    for i in 0..n.0 + 1 {
+        put(darts, Dim(i), d, ABSENT, table);
+    }
+}
+
+// Those of all darts strung from the first on, whichever these are.
+fn clear_strung(n: Dim, darts: usize, next: &[u16; ROOM], first: u16, table: &mut [u16])
+    requires { ⌜ Strings darts first (now next) × Rows (n .0) darts (now table) ⌝ }
+    ensures { λ _. ⌜ ((test : ℕ → Bool) → Along test darts first (now (next .entry)) → Cleared darts (λ t d. test d && ltb t (n .0 + 1)) (now (table .entry)) (now (table .exit))) ⌝ }
 {
     let mut d = first as usize;
     while d < darts {
-        put(darts, i, d, ABSENT, table);
+        clear_dart(n, darts, d, table);
         d = next_of(next, d);
     }
 }
 
-// Every row cleared.
+// The same, with n as a number that the compiler knows where it is one: all rows of a dart are then taken in one go.
 fn clear(n: Dim, darts: usize, next: &[u16; ROOM], first: u16, table: &mut [u16])
     requires { ⌜ Strings darts first (now next) × Rows (n .0) darts (now table) ⌝ }
     ensures { λ _. ⌜ ((test : ℕ → Bool) → Along test darts first (now (next .entry)) → Cleared darts (λ t d. test d && ltb t (n .0 + 1)) (now (table .entry)) (now (table .exit))) ⌝ }
 {
-    for i in 0..n.0 + 1 {
-        clear_row(darts, next, first, Dim(i), table);
+    if n.0 == 1 {
+        clear_strung(Dim(1), darts, next, first, table);
+        return;
     }
+    if n.0 == 2 {
+        clear_strung(Dim(2), darts, next, first, table);
+        return;
+    }
+    if n.0 == 3 {
+        clear_strung(Dim(3), darts, next, first, table);
+        return;
+    }
+    if n.0 == 4 {
+        clear_strung(Dim(4), darts, next, first, table);
+        return;
+    }
+    clear_strung(n, darts, next, first, table);
 }
 
 // The kernel removed in place.

@@ -51,7 +51,9 @@ pub(crate) fn at(darts: usize, table: &[u16], i: Dim, d: usize) -> usize
     requires { ⌜ Place darts (now table) (i .0) d ⌝ }
     ensures { λ r. ⌜ r ≡ entry darts (now (table .entry)) (i .0) d ⌝ }
 {
-    answers::at(darts as u16, table, i, d as u16) as usize
+    let row = i.0 as usize * darts;
+    let on = &table[row..];
+    wide(on[d])
 }
 
 // The heads of the strings: one for each number that a byte of Λ may be.

@@ -1,5 +1,6 @@
 // Numbers 9 and 10 of one kernel, on an explicit level. The first place found is the one reported.
 use super::Kernel;
+use super::fits::fits;
 use super::strings::at;
 use super::strings::in_kernel;
 use super::strings::next_of;
@@ -15,16 +16,16 @@ ghost use Prim.Native.Nat.{ℕ, _<_, _≤_};
 ghost use lib.ListN.{length};
 ghost use Rattle.maps.specs.Mark.{isMark, stay, hasBeyond};
 ghost use Rattle.maps.specs.Table.{entry};
-ghost use Rattle.maps.specs.Check.{differs, check9, check10};
+ghost use Rattle.maps.specs.Check.{differs, check9, check10, checkKernel};
 ghost use Rattle.answers.specs.Numbers.{verdictOf};
 ghost use Rattle.answers.specs.Rows.{Rows};
 ghost use Rattle.kernels.specs.Strings.{Strung};
 ghost use Rattle.kernels.specs.Ready.{mapOf, rowOf, Place, Tested, leavesBy};
 
 // A dart of a kernel, and its mark there.
-struct Marked {
-    dart: usize,
-    mark: Mark,
+pub(crate) struct Marked {
+    pub dart: usize,
+    pub mark: Mark,
 }
 
 // Number 9 at one place: does involution j, which is not the mark's first row, lead from the marked dart to one that is not in the kernel with its mark?
@@ -84,7 +85,7 @@ pub fn whole(
 }
 
 // Number 10 of one dart of this mark, which has a row beyond: does it end at the same place by the mark's second row and then the row beyond it as in the other order?
-fn commuting(n: Dim, darts: usize, table: &[u16], mark: Mark, d: usize) -> bool
+pub(crate) fn commuting(n: Dim, darts: usize, table: &[u16], mark: Mark, d: usize) -> bool
     requires { ⌜ Rows (n .0) darts (now table) × (isMark (n .0) (mark .0) ≡ true) × (d < darts) × (hasBeyond (n .0) (mark .0) ≡ true) ⌝ }
     requires { ⌜ ((t : ℕ) → t ≤ n .0 → entry darts (now table) t d < darts) ⌝ }
     ensures { λ r. ⌜ not r ≡ (hasBeyond (n .0) (mark .0) && differs (entry darts (now (table .entry))) (λ _. mark .0) d) ⌝ }
@@ -92,7 +93,9 @@ fn commuting(n: Dim, darts: usize, table: &[u16], mark: Mark, d: usize) -> bool
     let rows = answers::between(mark);
     let near = rows.1;
     let far = answers::beyond(n, mark);
-    answers::commute(darts as u16, table, near, far, d as u16)
+    let by_near = at(darts, table, near, d);
+    let by_far = at(darts, table, far, d);
+    at(darts, table, far, by_near) == at(darts, table, near, by_far)
 }
 
 // Number 10: the first dart of the kernel whose own commuting test fails. Whether a mark has a row beyond is found anew only where it changes.
@@ -129,4 +132,25 @@ pub fn fitting(
         d = next_of(next, d);
     }
     Check::Accepted
+}
+
+// Numbers 9 and 10 of the kernel; the place is sought only if there is one.
+pub fn tested(
+    kernel: Kernel,
+    lambda: &[u8],
+    delta: &[u8],
+    next: &[u16; ROOM],
+    table: &[u16],
+) -> Check
+    requires { ⌜ Tested (kernel .n .0) (kernel .darts) (rowOf kernel lambda delta) (now table) ⌝ }
+    requires { ⌜ Strung (kernel .n .0) (kernel .darts) (kernel .level .0) (kernel .first) (now lambda) (now delta) (now next) ⌝ }
+    ensures { λ r. ⌜ verdictOf r ≡ checkKernel (mapOf kernel (table .entry)) (kernel .n .0) (kernel .darts) (rowOf kernel (lambda .entry) (delta .entry)) (kernel .level .0) ⌝ }
+{
+    if fits(kernel, lambda, delta, next, table) {
+        return Check::Accepted;
+    }
+    if let Check::Refused(r) = whole(kernel, lambda, delta, next, table) {
+        return Check::Refused(r);
+    }
+    fitting(kernel, lambda, delta, next, table)
 }

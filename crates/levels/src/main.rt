@@ -5,7 +5,7 @@ use answers::Level;
 use answers::MOST_ENTRIES;
 use answers::ROOM;
 use answers::Sizes;
-use reading::Unfolding;
+use one_level::Unfolding;
 use taking::Taken;
 
 // Number, survivors, total count, and since which level all links stand.
@@ -28,9 +28,9 @@ fn one_level(
 ) {
     let sizes = at.sizes;
     let level = at.level;
-    match rows::survivors(sizes.darts, sizes.h, lambda, level, words) {
-        rows::Survivors::Refused(r) => programs::refuse(1, r),
-        rows::Survivors::Counted(survivors) => match reading::unfold(
+    match survivor_words::survivors(sizes.darts, sizes.h, lambda, level, words) {
+        survivor_words::Survivors::Refused(r) => programs::refuse(1, r),
+        survivor_words::Survivors::Counted(survivors) => match one_level::unfold(
             sizes,
             rows,
             lambda,
@@ -38,8 +38,8 @@ fn one_level(
             level,
             table,
         ) {
-            reading::Total::Refused(r) => programs::refuse(1, r),
-            reading::Total::Counted(all) => level_line(level, survivors, all),
+            one_level::Total::Refused(r) => programs::refuse(1, r),
+            one_level::Total::Counted(all) => level_line(level, survivors, all),
         },
     }
 }

@@ -5,7 +5,6 @@ use mathlib.Core.Bool.{Bool, true, false, cond, true≢false}
 use mathlib.Core.List.{List}
 use Prim.Native.Nat.{ℕ, zero, suc, _+_, _-_, _≤_, _<_}
 use native.Mathlib.Omega.{arith}
-use native.Mathlib.Numerals.{add-one}
 use lib.ListN.{length, getD, set, length-set}
 use lib.Seq.{getD-set-same, getD-set-other}
 use lib.Dec.{eqb, ltb}
@@ -58,7 +57,7 @@ module _ (N : ℕ) (lN : N ≤ 4096) (s : State) (z : Stored N s) (d : ℕ) (ld 
     few = omega (arith, z .few, set-count (s .reached) d N below-room ld q);
   }
 
-  pushed-stored : Stored N (pushed s d)
+  pub pushed-stored : Stored N (pushed s d)
   pushed-stored = pushed-cases (Stored N) s d (λ q. z) joined-stored
 
   pushed-grown : Grown s (pushed s d)
@@ -83,18 +82,8 @@ module _ (a : Involutions) (uses : ℕ → Bool) (d : ℕ) (s : State) where
       go true u r = step m (omega arith) u (spread a uses d s m) r
       go false u r = r
 
-  -- one row more
-  module _ (m : ℕ) (t : State) (e : t ≡ spread a uses d s m) where
-    pub spread-used : uses m ≡ true → (x : ℕ) → x ≡ a m d → pushed t x ≡ spread a uses d s (m + 1)
-    unfolding spread
-    spread-used u x f = rw (add-one, u, f, e)
-
-    pub spread-unused : uses m ≡ false → t ≡ spread a uses d s (m + 1)
-    unfolding spread
-    spread-unused u = rw (add-one, u) e
-
   module _ (n N : ℕ) (lN : N ≤ 4096) (inside : (j : ℕ) → j ≤ n → uses j ≡ true → a j d < N) (z : Stored N s) where
-    pub spread-stored : (m : ℕ) → m ≤ suc n → Stored N (spread a uses d s m)
+    spread-stored : (m : ℕ) → m ≤ suc n → Stored N (spread a uses d s m)
     spread-stored m l = spread-keeps (Stored N) m (λ j lj u t r. pushed-stored N lN t r (a j d) (inside j (omega arith) u)) z
 
     -- each neighbour by a row used is reached

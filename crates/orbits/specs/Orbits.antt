@@ -1,7 +1,7 @@
 -- What a search asks, and what it finds. Assumes nothing: these are definitions.
 use mathlib.Core.Path.{_≡_}
 use mathlib.Core.Logic.{_⊎_}
-use mathlib.Core.Bool.{Bool, true, false}
+use mathlib.Core.Bool.{Bool, true, false, cond}
 use mathlib.Core.List.{List}
 use Prim.Native.Nat.{ℕ, suc, _≤_, _<_}
 use lib.ListN.{getD}
@@ -28,12 +28,21 @@ pub record Ready (n N : ℕ) (table : List ℕ) (uses : ℕ → ℕ → Bool) (s
   pub inside : Inside (entry N table) n N uses start
   pub closed : Closed (entry N table) n uses old
 
--- what a turn asks: the rows of its choice lead from its dart to darts, and the queue has room
+-- what a turn asks: there are rows 0 and 1, the rows of its choice lead from its dart to darts, and the queue has room
 pub record Spreads (from : Search) (choice : ℕ) (table : List ℕ) (s : State) : Type 0 where
+  pub two-rows : 1 ≤ from .n .0
   pub rows : Rows (from .n .0) (from .darts) table
   pub dart : from .dart < from .darts
   pub inside : (j : ℕ) → j ≤ from .n .0 → uses choice j ≡ true → entry (from .darts) table j (from .dart) < from .darts
   pub stored : Stored (from .darts) s
+
+-- the same search with another end of the queue
+abbrev pub endingAt : Search → ℕ → Search
+endingAt from tail = record { n = from .n; darts = from .darts; dart = from .dart; tail = tail }
+
+-- the state once the neighbour of a dart by a row is in the queue, if its choice uses the row
+abbrev pub pushedBy : Search → ℕ → List ℕ → ℕ → State → State
+pushedBy from choice table row s = cond (uses choice row) (pushed s (entry (from .darts) table row (from .dart))) s
 
 -- the state once the neighbours of a dart by the rows of its choice are in the queue
 abbrev pub spreadBy : Search → ℕ → List ℕ → State → State

@@ -3,13 +3,13 @@ use answers::Dim;
 use answers::ROOM;
 ghost use mathlib.Core.Path.{_≡_};
 ghost use mathlib.Core.Bool.{true, false, not};
-ghost use Prim.Native.Nat.{ℕ, _<_};
+ghost use Prim.Native.Nat.{ℕ, _≤_, _<_};
 ghost use lib.Dec.{eqb};
 ghost use Rattle.maps.specs.Parts.{besides};
 ghost use Rattle.maps.specs.Table.{entry};
 ghost use Rattle.orbits.specs.Choices.{uses as usesOf, chosen};
 ghost use Rattle.orbits.specs.Search.{has, state, held, Stored, pushed};
-ghost use Rattle.orbits.specs.Orbits.{Ready, Spreads, spreadBy, Finds};
+ghost use Rattle.orbits.specs.Orbits.{Ready, Spreads, endingAt, pushedBy, spreadBy, Finds};
 
 // The choice of every row, a bit for each.
 pub const ALL_ROWS: u8 = 31;
@@ -60,7 +60,40 @@ pub struct Search {
     pub tail: usize,
 }
 
-// Puts the neighbours of a dart by the rows of its choice in the queue, unless they are reached already; the queue's new end.
+// The same search with another end of the queue.
+fn ending(from: Search, tail: usize) -> Search
+    ensures { λ r. ⌜ r ≡ endingAt from tail ⌝ }
+{
+    let n = from.n;
+    Search {
+        n,
+        darts: from.darts,
+        dart: from.dart,
+        tail,
+    }
+}
+
+// Puts the neighbour of a dart by a row in the queue, if its choice uses the row, unless it is reached already; the queue's new end.
+fn push_by(
+    from: Search,
+    row: Dim,
+    choice: u8,
+    table: &[u16],
+    reached: &mut [bool; ROOM],
+    queue: &mut [u16; ROOM],
+) -> usize
+    requires { ⌜ Spreads from choice (now table) (state (now reached) (now queue) (from .tail)) × (row .0 ≤ from .n .0) ⌝ }
+    ensures pushes { λ r. ⌜ held (reached .exit) (queue .exit) r ≡ pushedBy from choice (now (table .entry)) (row .0) (held (reached .entry) (queue .entry) (from .tail)) ⌝ }
+    ensures goes_on { λ r. ⌜ Spreads (endingAt from r) choice (now (table .entry)) (held (reached .exit) (queue .exit) r) ⌝ }
+{
+    if !uses(choice, row) {
+        return from.tail;
+    }
+    let e = answers::at(from.darts, table, row, from.dart);
+    push(e, reached, queue, from.tail)
+}
+
+// Puts the neighbours of a dart by the rows of its choice in the queue, unless they are reached already; the queue's new end. Without a loop over the rows, which would cost more than the rows themselves.
 fn push_neighbours(
     from: Search,
     choice: u8,
@@ -71,17 +104,21 @@ fn push_neighbours(
     requires { ⌜ Spreads from choice (now table) (state (now reached) (now queue) (from .tail)) ⌝ }
     ensures { λ r. ⌜ held (reached .exit) (queue .exit) r ≡ spreadBy from choice (now (table .entry)) (held (reached .entry) (queue .entry) (from .tail)) ⌝ }
 {
-    let darts = from.darts;
-    let d = from.dart;
-    let mut end = from.tail;
-    for j in 0..from.n.0 + 1 {
-        if uses(choice, Dim(j)) {
-            let e = answers::at(darts, table, Dim(j), d);
-            let next = push(e, reached, queue, end);
-            end = next;
-        }
+    let n = from.n.0;
+    let zero = push_by(from, Dim(0), choice, table, reached, queue);
+    let one = push_by(ending(from, zero), Dim(1), choice, table, reached, queue);
+    if n < 2 {
+        return one;
     }
-    end
+    let two = push_by(ending(from, one), Dim(2), choice, table, reached, queue);
+    if n < 3 {
+        return two;
+    }
+    let three = push_by(ending(from, two), Dim(3), choice, table, reached, queue);
+    if n < 4 {
+        return three;
+    }
+    push_by(ending(from, three), Dim(4), choice, table, reached, queue)
 }
 
 // Adds the orbit of a dart to the set of darts reached, which no row used leads out of; the queue's new end. From the old one on stand the darts added.
@@ -94,6 +131,7 @@ pub fn orbit(
 ) -> usize
     requires { ⌜ Ready (search .n .0) (search .darts) (now table) (chosen (now choices)) (search .dart) (has (now reached)) ⌝ }
     requires { ⌜ Stored (search .darts) (state (now reached) (now queue) (search .tail)) ⌝ }
+    requires { ⌜ 1 ≤ search .n .0 ⌝ }
     ensures { λ r. ⌜ Finds search (now (table .entry)) (chosen (now (choices .entry))) (held (reached .entry) (queue .entry) (search .tail)) (held (reached .exit) (queue .exit) r) ⌝ }
 {
     let n = search.n;

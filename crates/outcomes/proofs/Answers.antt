@@ -17,14 +17,15 @@ use Rattle.answers.specs.declared.Check.the-variants.{Accepted, Refused}
 use Rattle.by_levels.specs.Answers.{valueOf}
 use Rattle.by_levels.specs.declared.Answered.{Answered}
 use Rattle.by_levels.specs.declared.Answered.the-variants.{Found, Refused as Unread}
-use Rattle.reading.specs.Answers.{valueOf as linkOf, standsSince, checkOf, totalOf, latestOf}
+use Rattle.reading.specs.Answers.{valueOf as linkOf, standsSince}
+use Rattle.one_level.specs.Answers.{checkOf, totalOf, latestOf}
 use Rattle.reading.specs.declared.Reading.{Reading as Linked}
 use Rattle.reading.specs.declared.Reading.the-variants.{Found as Stands, Refused as Unlinked}
-use Rattle.reading.specs.declared.Total.{Total}
-use Rattle.reading.specs.declared.Total.the-variants.{Counted, Refused as Uncounted}
-use Rattle.rows.specs.Answers.{verdictOfSurvivors, countOfSurvivors}
-use Rattle.rows.specs.declared.counted.Survivors.{Survivors}
-use Rattle.rows.specs.declared.counted.Survivors.the-variants.{Counted as Ones, Refused as NoWords}
+use Rattle.one_level.specs.declared.Total.{Total}
+use Rattle.one_level.specs.declared.Total.the-variants.{Counted, Refused as Uncounted}
+use Rattle.survivor_words.specs.Answers.{verdictOfSurvivors, countOfSurvivors}
+use Rattle.survivor_words.specs.declared.counted.Survivors.{Survivors}
+use Rattle.survivor_words.specs.declared.counted.Survivors.the-variants.{Counted as Ones, Refused as NoWords}
 use Rattle.checking.specs.Answers.{verdictBy, heightOf}
 use Rattle.checking.specs.declared.pyramid.Height.{Height as Heights}
 use Rattle.checking.specs.declared.pyramid.Height.the-variants.{Now, Refused as Kept}
@@ -42,9 +43,11 @@ use Rattle.starting_again.specs.Answers.{Outcome as Rebasing, rebasedOf}
 use Rattle.starting_again.specs.declared.Rebased.{Rebased}
 use Rattle.starting_again.specs.declared.Rebased.the-variants.{Base, Refused as NotRebased}
 
-abbrev level : ℕ → Level
+-- a level
+abbrev pub level : ℕ → Level
 level l = record { 0 = l }
 
+-- a dimension
 abbrev dimension : ℕ → Dim
 dimension i = record { 0 = i }
 

@@ -3,7 +3,18 @@ use mathlib.Core.Path.{refl, ap, sym, _∙_}
 use contract.Lifetimes.{Lfts}
 use denote.Ref.{now}
 use Rattle.maps.specs.Census.{censusLent}
-use Rattle.maps.specs.Folded.{ofParts}
+use Rattle.answers.specs.Pyramid.{given}
+use Rattle.interface.proofs.version.Reads as version-number
+use Rattle.interface.proofs.refusal_as.Reads as refusal-as
+use Rattle.interface.proofs.reading_as.Reads as reading-as
+use Rattle.interface.proofs.link_as.Reads as link-as
+use Rattle.interface.proofs.unfolding_as.Reads as unfolding-as
+use Rattle.interface.proofs.count_as.Reads as count-as
+use Rattle.interface.proofs.height_as.Reads as height-as
+use Rattle.interface.proofs.record_as.Reads as record-as
+use Rattle.interface.proofs.written_as.Reads as written-as
+use Rattle.interface.proofs.factor_as.Reads as factor-as
+use Rattle.interface.proofs.base_as.Reads as base-as
 use Rattle.zompelgors.proofs.zg_version.Reads as version
 use Rattle.zompelgors.proofs.zg_check_base.Reads as check-base
 use Rattle.zompelgors.proofs.zg_check.Reads as check
@@ -23,7 +34,7 @@ use Rattle.zompelgors.proofs.zg_census.Reads as census
 use Rattle.counting.proofs.OneCensus.{put-leaves-one}
 use Rattle.zompelgors.proofs.zg_import.Reads as import-map
 use Rattle.zompelgors.proofs.zg_export.Reads as export-map
-use Rattle.zompelgors.specs.Flat.{refusalFor}
+use Rattle.interface.specs.Flat.{refusalFor}
 use Rattle.zompelgors_regions.proofs.zg_regions.Reads as regions
 use Rattle.zompelgors.proofs.zg_join.Reads as join
 use Rattle.zompelgors.proofs.zg_rebase.Reads as rebase
@@ -31,6 +42,40 @@ use Rattle.outcomes.proofs.One.{OneOutcome, one-outcome, nothing, three
 use Rattle.outcomes.proofs.Cells.{marking-same}
 use Rattle.outcomes.proofs.Partner.{import-same, export-same}
 use Rattle.outcomes.proofs.Regions.{naming-same}
+
+-- the structs that are answered, and the version
+pub version-one : (κs : Lfts 0) → OneOutcome (version-number.Learnt κs) (λ r. r) nothing
+version-one κs = one-outcome _ _ _ (λ a r. r) (λ r. r) (λ a r. refl) _ _ (λ a r s c. (c, refl))
+
+pub refusal-as-one : (κs : Lfts 0) → OneOutcome (refusal-as.Learnt κs) (λ r. r) nothing
+refusal-as-one κs = one-outcome _ _ _ (λ a r. r) (λ r. r) (λ a r. refl) _ _ (λ a r s c. (c, refl))
+
+pub reading-as-one : (κs : Lfts 0) → OneOutcome (reading-as.Learnt κs) (λ r. r) nothing
+reading-as-one κs = one-outcome _ _ _ (λ a r. r) (λ r. r) (λ a r. refl) _ _ (λ a r s c. (c, refl))
+
+pub link-as-one : (κs : Lfts 0) → OneOutcome (link-as.Learnt κs) (λ r. r) nothing
+link-as-one κs = one-outcome _ _ _ (λ a r. r) (λ r. r) (λ a r. refl) _ _ (λ a r s c. (c, refl))
+
+pub unfolding-as-one : (κs : Lfts 0) → OneOutcome (unfolding-as.Learnt κs) (λ r. r) nothing
+unfolding-as-one κs = one-outcome _ _ _ (λ a r. r) (λ r. r) (λ a r. refl) _ _ (λ a r s c. (c, refl))
+
+pub count-as-one : (κs : Lfts 0) → OneOutcome (count-as.Learnt κs) (λ r. r) nothing
+count-as-one κs = one-outcome _ _ _ (λ a r. r) (λ r. r) (λ a r. refl) _ _ (λ a r s c. (c, refl))
+
+pub height-as-one : (κs : Lfts 0) → OneOutcome (height-as.Learnt κs) (λ r. r) nothing
+height-as-one κs = one-outcome _ _ _ (λ a r. r) (λ r. r) (λ a r. refl) _ _ (λ a r s c. (c, refl))
+
+pub record-as-one : (κs : Lfts 0) → OneOutcome (record-as.Learnt κs) (λ r. r) nothing
+record-as-one κs = one-outcome _ _ _ (λ a r. r) (λ r. r) (λ a r. refl) _ _ (λ a r s c. (c, refl))
+
+pub written-as-one : (κs : Lfts 0) → OneOutcome (written-as.Learnt κs) (λ r. r) nothing
+written-as-one κs = one-outcome _ _ _ (λ a r. r) (λ r. r) (λ a r. refl) _ _ (λ a r s c. (c, refl))
+
+pub factor-as-one : (κs : Lfts 0) → OneOutcome (factor-as.Learnt κs) (λ r. r) nothing
+factor-as-one κs = one-outcome _ _ _ (λ a r. r) (λ r. r) (λ a r. refl) _ _ (λ a r s c. (c, refl))
+
+pub base-as-one : (κs : Lfts 0) → OneOutcome (base-as.Learnt κs) (λ r. r) nothing
+base-as-one κs = one-outcome _ _ _ (λ a r. r) (λ r. r) (λ a r. refl) _ _ (λ a r s c. (c, refl))
 
 pub zg-version-one : (κs : Lfts 0) → OneOutcome (version.Learnt κs) (λ r. r) nothing
 zg-version-one κs = one-outcome _ _ _ (λ a r. r) (λ r. r) (λ a r. refl) _ _ (λ a r s c. (c, refl))
@@ -90,7 +135,7 @@ zg-decimation-one κs = one-outcome _ _ _ (λ a r. r) (λ r. r) (λ a r. refl) _
 -- the table, the counts and the sums, of which the contract says what they count
 pub zg-census-one : (κs : Lfts 6) → OneOutcome (census.Learnt κs) (λ r. r) (λ s. three (now (s .1 .1 .1 .1 .1 .1 .0)) (now (s .1 .1 .1 .1 .1 .1 .1 .0)) (now (s .1 .1 .1 .1 .1 .1 .1 .1 .0)))
 zg-census-one κs a r r′ s s′ c c′ =
-    let w = put-leaves-one (a .0) (a .1 .0) (a .1 .1 .0) (now (a .1 .1 .1 .0)) (now (a .1 .1 .1 .1 .0)) (now (a .1 .1 .1 .1 .1 .0)) (censusLent (ofParts (a .0) (a .1 .0) (a .1 .1 .0) (now (a .1 .1 .1 .0)) (now (a .1 .1 .1 .1 .0)) (now (a .1 .1 .1 .1 .1 .0))) (now (a .1 .1 .1 .1 .1 .1 .0)) (now (a .1 .1 .1 .1 .1 .1 .1 .0)) (now (a .1 .1 .1 .1 .1 .1 .1 .1 .0))) (now (a .1 .1 .1 .1 .1 .1 .1 .0)) (now (a .1 .1 .1 .1 .1 .1 .1 .1 .0)) _ _ _ _ (c .1 .1) (c′ .1 .1) in
+    let w = put-leaves-one (given (a .0) (a .1 .0) (a .1 .1 .0) (a .1 .1 .1 .0) (a .1 .1 .1 .1 .0) (a .1 .1 .1 .1 .1 .0)) (censusLent (given (a .0) (a .1 .0) (a .1 .1 .0) (a .1 .1 .1 .0) (a .1 .1 .1 .1 .0) (a .1 .1 .1 .1 .1 .0)) (now (a .1 .1 .1 .1 .1 .1 .0)) (now (a .1 .1 .1 .1 .1 .1 .1 .0)) (now (a .1 .1 .1 .1 .1 .1 .1 .1 .0))) (now (a .1 .1 .1 .1 .1 .1 .1 .0)) (now (a .1 .1 .1 .1 .1 .1 .1 .1 .0)) _ _ _ _ (c .1 .1) (c′ .1 .1) in
     (c .0 ∙ sym (c′ .0), same-three (c .1 .0 ∙ sym (c′ .1 .0)) (w .0) (w .1))
 
 -- the base rows
@@ -106,7 +151,7 @@ zg-export-one κs a r r′ s s′ c c′ =
 -- the table and the name row
 pub zg-regions-one : (κs : Lfts 5) → OneOutcome (regions.Learnt κs) (λ r. r) (λ s. pair (now (s .1 .1 .1 .1 .1 .1 .0)) (now (s .1 .1 .1 .1 .1 .1 .1 .1 .0)))
 zg-regions-one κs a r r′ s s′ c c′ =
-    (c .0 ∙ sym (c′ .0), same-pair (c .1 .0 ∙ sym (c′ .1 .0)) (naming-same (a .0) (a .1 .0) (a .1 .1 .0) (now (a .1 .1 .1 .0)) (now (a .1 .1 .1 .1 .0)) (now (a .1 .1 .1 .1 .1 .0)) (now (a .1 .1 .1 .1 .1 .1 .0)) (a .1 .1 .1 .1 .1 .1 .1 .0) (now (a .1 .1 .1 .1 .1 .1 .1 .1 .0)) _ _ (c .1 .1) (c′ .1 .1)))
+    (c .0 ∙ sym (c′ .0), same-pair (c .1 .0 ∙ sym (c′ .1 .0)) (naming-same (given (a .0) (a .1 .0) (a .1 .1 .0) (a .1 .1 .1 .0) (a .1 .1 .1 .1 .0) (a .1 .1 .1 .1 .1 .0)) (now (a .1 .1 .1 .1 .1 .1 .0)) (a .1 .1 .1 .1 .1 .1 .1 .0) (now (a .1 .1 .1 .1 .1 .1 .1 .1 .0)) _ _ (c .1 .1) (c′ .1 .1)))
 
 -- Λ and the table
 pub zg-join-one : (κs : Lfts 4) → OneOutcome (join.Learnt κs) (λ r. r) (λ s. pair (now (s .1 .1 .1 .1 .0)) (now (s .1 .1 .1 .1 .1 .1 .0)))

@@ -34,13 +34,14 @@ use Rattle.bases.proofs.check_explicit.Reads as check-explicit
 use Rattle.checking.proofs.early.Reads as early
 use Rattle.checking.proofs.check.Reads as check
 use Rattle.checking.proofs.add.Reads as add
-use Rattle.rows.proofs.marks_of.Reads as marks-of
+use Rattle.marks_back.proofs.marks_of.Reads as marks-of
 use Rattle.rows.proofs.row.Reads as row
 use Rattle.rows.proofs.row_refusal.Reads as row-refusal
-use Rattle.rows.proofs.survivors.Reads as survivors
+use Rattle.survivor_words.proofs.survivors.Reads as survivors
 use Rattle.questions.proofs.question.Reads as question
+use Rattle.reading.proofs.later.Reads as later
 use Rattle.reading.proofs.read.Reads as read
-use Rattle.reading.proofs.unfold.Reads as unfold-level
+use Rattle.one_level.proofs.unfold.Reads as unfold-level
 use Rattle.by_levels.proofs.read_by_levels.Reads as by-levels
 use Rattle.cells.proofs.mark_cells.Reads as mark-cells
 use Rattle.taking.proofs.take.Reads as take
@@ -55,11 +56,13 @@ use Rattle.combinatorial.proofs.import.Reads as import-map
 use Rattle.combinatorial.proofs.export.Reads as export-map
 use Rattle.regions.proofs.name_regions.Reads as name-regions
 use Rattle.converting.proofs.convert.Reads as convert
+use Rattle.joined_kernels.proofs.lambda_joined.Reads as lambda-joined
 use Rattle.joining.proofs.join.Reads as join
 use Rattle.starting_again.proofs.rebase.Reads as rebase
+use Rattle.stacking.proofs.stack.Reads as stack
 use Rattle.unfolding.proofs.unfold_all.Reads as unfold-all
 use Rattle.outcomes.proofs.One.{OneOutcome, one-outcome, nothing, three, same-three, four, same-four, five, same-five, pair, same-pair}
-use Rattle.outcomes.proofs.Answers.{checkFrom, check-told, readingFrom, reading-told, valuesOfLink, linkFrom, link-told, valuesOfTotal, totalFrom, total-told, valuesOfSurvivors, survivorsFrom, survivors-told, valuesOfHeight, heightFrom, height-told, takenFrom, taken-told, writtenFrom, written-told, factorFrom, factor-told, rebasedFrom, rebased-told, numbersFrom, numbers-told}
+use Rattle.outcomes.proofs.Answers.{level, checkFrom, check-told, readingFrom, reading-told, valuesOfLink, linkFrom, link-told, valuesOfTotal, totalFrom, total-told, valuesOfSurvivors, survivorsFrom, survivors-told, valuesOfHeight, heightFrom, height-told, takenFrom, taken-told, writtenFrom, written-told, factorFrom, factor-told, rebasedFrom, rebased-told, numbersFrom, numbers-told}
 use Rattle.outcomes.proofs.Cells.{marking-same}
 use Rattle.outcomes.proofs.Partner.{import-same, export-same}
 use Rattle.outcomes.proofs.Regions.{naming-same}
@@ -89,6 +92,9 @@ marks-of-one κs = one-outcome _ _ _ (λ a. verdictOf) checkFrom (λ a. check-to
 
 pub question-one : (κs : Lfts 3) → OneOutcome (question.Learnt κs) (λ r. r) nothing
 question-one κs = one-outcome _ _ _ (λ a. verdictOf) checkFrom (λ a. check-told) _ _ (λ a r s c. (c, refl))
+
+pub later-one : (κs : Lfts 0) → OneOutcome (later.Learnt κs) (λ r. r) nothing
+later-one κs = one-outcome _ _ _ (λ a r. r .0) level (λ a r. refl) _ _ (λ a r s c. (c, refl))
 
 pub read-one : (κs : Lfts 3) → OneOutcome (read.Learnt κs) (λ r. r) nothing
 read-one κs = one-outcome _ _ _ (λ a. valuesOfLink) linkFrom (λ a. link-told) _ _ (λ a r s c. (ap₂ (λ v x. (v, x)) (c .0) (c .1), refl))
@@ -142,13 +148,13 @@ decimation-one κs = one-outcome _ _ _ (λ a. factorOf) factorFrom (λ a. factor
 -- the table, the counts and the sums, in arrays
 pub census-one : (κs : Lfts 6) → OneOutcome (census.Learnt κs) (λ r. r) (λ s. three (now (s .1 .1 .1 .1 .0)) (now (s .1 .1 .1 .1 .1 .0)) (now (s .1 .1 .1 .1 .1 .1 .0)))
 census-one κs a r r′ s s′ c c′ =
-    let w = leaves-one (a .0 .n .0) (a .0 .darts) (a .0 .h .0) (now (a .1 .0)) (now (a .1 .1 .0)) (now (a .1 .1 .1 .0)) (checkLent (lent-to (a .0) (a .1 .0) (a .1 .1 .0) (a .1 .1 .1 .0)) (now (a .1 .1 .1 .1 .0))) (now (a .1 .1 .1 .1 .1 .0)) (now (a .1 .1 .1 .1 .1 .1 .0)) _ _ _ _ (c .1 .1) (c′ .1 .1) in
+    let w = leaves-one (lent-to (a .0) (a .1 .0) (a .1 .1 .0) (a .1 .1 .1 .0)) (checkLent (lent-to (a .0) (a .1 .0) (a .1 .1 .0) (a .1 .1 .1 .0)) (now (a .1 .1 .1 .1 .0))) (now (a .1 .1 .1 .1 .1 .0)) (now (a .1 .1 .1 .1 .1 .1 .0)) _ _ _ _ (c .1 .1) (c′ .1 .1) in
     (sym (check-told r) ∙ ap checkFrom (c .0 ∙ sym (c′ .0)) ∙ check-told r′, same-three (c .1 .0 ∙ sym (c′ .1 .0)) (w .0) (w .1))
 
 -- and in slices
 pub census-into-one : (κs : Lfts 6) → OneOutcome (census-into.Learnt κs) (λ r. r) (λ s. three (now (s .1 .1 .1 .1 .0)) (now (s .1 .1 .1 .1 .1 .0)) (now (s .1 .1 .1 .1 .1 .1 .0)))
 census-into-one κs a r r′ s s′ c c′ =
-    let w = put-leaves-one (a .0 .n .0) (a .0 .darts) (a .0 .h .0) (now (a .1 .0)) (now (a .1 .1 .0)) (now (a .1 .1 .1 .0)) (censusLent (lent-to (a .0) (a .1 .0) (a .1 .1 .0) (a .1 .1 .1 .0)) (now (a .1 .1 .1 .1 .0)) (now (a .1 .1 .1 .1 .1 .0)) (now (a .1 .1 .1 .1 .1 .1 .0))) (now (a .1 .1 .1 .1 .1 .0)) (now (a .1 .1 .1 .1 .1 .1 .0)) _ _ _ _ (c .1 .1) (c′ .1 .1) in
+    let w = put-leaves-one (lent-to (a .0) (a .1 .0) (a .1 .1 .0) (a .1 .1 .1 .0)) (censusLent (lent-to (a .0) (a .1 .0) (a .1 .1 .0) (a .1 .1 .1 .0)) (now (a .1 .1 .1 .1 .0)) (now (a .1 .1 .1 .1 .1 .0)) (now (a .1 .1 .1 .1 .1 .1 .0))) (now (a .1 .1 .1 .1 .1 .0)) (now (a .1 .1 .1 .1 .1 .1 .0)) _ _ _ _ (c .1 .1) (c′ .1 .1) in
     (sym (check-told r) ∙ ap checkFrom (c .0 ∙ sym (c′ .0)) ∙ check-told r′, same-three (c .1 .0 ∙ sym (c′ .1 .0)) (w .0) (w .1))
 
 -- the base rows, which are those that the two rows yield
@@ -165,13 +171,16 @@ export-one κs a r r′ s s′ c c′ =
 -- the table, and the name row, of which the contract says for each dart what its name is
 pub name-regions-one : (κs : Lfts 5) → OneOutcome (name-regions.Learnt κs) (λ r. r) (λ s. pair (now (s .1 .1 .1 .1 .0)) (now (s .1 .1 .1 .1 .1 .0)))
 name-regions-one κs a r r′ s s′ c c′ =
-    (sym (check-told r) ∙ ap checkFrom (c .0 ∙ sym (c′ .0)) ∙ check-told r′, same-pair (c .1 .0 ∙ sym (c′ .1 .0)) (naming-same (a .0 .sizes .n .0) (a .0 .sizes .darts) (a .0 .sizes .h .0) (now (a .1 .0)) (now (a .1 .1 .0)) (now (a .1 .1 .1 .0)) (now (a .1 .1 .1 .1 .0)) (a .0 .level .0) (now (a .1 .1 .1 .1 .1 .0)) _ _ (c .1 .1) (c′ .1 .1)))
+    (sym (check-told r) ∙ ap checkFrom (c .0 ∙ sym (c′ .0)) ∙ check-told r′, same-pair (c .1 .0 ∙ sym (c′ .1 .0)) (naming-same (lent-to (a .0 .sizes) (a .1 .0) (a .1 .1 .0) (a .1 .1 .1 .0)) (now (a .1 .1 .1 .1 .0)) (a .0 .level .0) (now (a .1 .1 .1 .1 .1 .0)) _ _ (c .1 .1) (c′ .1 .1)))
 
 -- rows, Λ, Δ, the table and the buffer
 pub convert-one : (κs : Lfts 6) → OneOutcome (convert.Learnt κs) (λ r. r) (λ s. five (now (s .1 .0)) (now (s .1 .1 .0)) (now (s .1 .1 .1 .0)) (now (s .1 .1 .1 .1 .0)) (now (s .1 .1 .1 .1 .1 .0)))
 convert-one κs =
     one-outcome _ _ _ (λ a. writtenOf) writtenFrom (λ a. written-told) _ _ (λ a r s c.
     (c .0, same-five (c .1 .0) (c .1 .1 .0) (c .1 .1 .1 .0) (c .1 .1 .1 .1 .0) (c .1 .1 .1 .1 .1)))
+
+pub lambda-joined-one : (κs : Lfts 0) → OneOutcome (lambda-joined.Learnt κs) (λ r. r) nothing
+lambda-joined-one κs = one-outcome _ _ _ (λ a r. r .0) level (λ a r. refl) _ _ (λ a r s c. (c, refl))
 
 -- Λ and the table
 pub join-one : (κs : Lfts 4) → OneOutcome (join.Learnt κs) (λ r. r) (λ s. pair (now (s .1 .1 .0)) (now (s .1 .1 .1 .1 .0)))
@@ -182,6 +191,10 @@ join-one κs =
 -- rows, Λ, Δ, the table and the old numbers
 pub rebase-one : (κs : Lfts 5) → OneOutcome (rebase.Learnt κs) (λ r. r) (λ s. five (now (s .1 .0)) (now (s .1 .1 .0)) (now (s .1 .1 .1 .0)) (now (s .1 .1 .1 .1 .0)) (now (s .1 .1 .1 .1 .1 .0)))
 rebase-one κs = one-outcome _ _ _ (λ a. rebasedOf (a .0 .sizes)) rebasedFrom (λ a. rebased-told (a .0 .sizes)) _ _ (λ a r s c. (c .0, same-five (c .1 .0) (c .1 .1 .0) (c .1 .1 .1 .0) (c .1 .1 .1 .1 .0) (c .1 .1 .1 .1 .1)))
+
+-- the blocks
+pub stack-one : (κs : Lfts 4) → OneOutcome (stack.Learnt κs) (λ r. r) (λ s. now (s .1 .1 .1 .1 .0))
+stack-one κs = one-outcome _ _ _ (λ a. verdictOf) checkFrom (λ a. check-told) _ _ (λ a r s c. c)
 
 -- the blocks, the counts and the levels since which
 pub unfold-all-one : (κs : Lfts 6) → OneOutcome (unfold-all.Learnt κs) (λ r. r) (λ s. three (now (s .1 .1 .1 .1 .0)) (now (s .1 .1 .1 .1 .1 .0)) (now (s .1 .1 .1 .1 .1 .1 .0)))

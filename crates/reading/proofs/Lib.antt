@@ -1,4 +1,1 @@
-mod Gone
 pub mod Walking
-pub mod Filled
-pub mod Unfolds

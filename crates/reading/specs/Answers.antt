@@ -1,12 +1,9 @@
--- The document's values for the answers of a direct reading and of an unfolding. Assumes nothing: these are definitions.
+-- The document's values for the answers of a direct reading. Assumes nothing: these are definitions.
 use Prim.Native.Nat.{ℕ}
-use Rattle.maps.specs.Verdict.{Verdict, accepted}
 use Rattle.maps.specs.Read.{Reading as Value, found, none, unless}
 use Rattle.answers.specs.Numbers.{refusalOf}
 use Rattle.reading.specs.declared.Reading.{Reading}
 use Rattle.reading.specs.declared.Reading.the-variants.{Found, Refused as NotFound}
-use Rattle.reading.specs.declared.Total.{Total}
-use Rattle.reading.specs.declared.Total.the-variants.{Counted, Refused}
 
 -- neighbour and count, or number, level, involution and dart (the second value of `unless` is never given: a Refusal always refuses)
 abbrev pub valueOf : Reading → Value
@@ -17,18 +14,3 @@ valueOf (NotFound r) = unless (refusalOf r) (none 0 0 0 0)
 abbrev pub standsSince : Reading → ℕ
 standsSince (Found link) = link .since .0
 standsSince (NotFound r) = 0
-
--- the verdict of an unfolding
-abbrev pub checkOf : Total → Verdict
-checkOf (Counted all) = accepted
-checkOf (Refused r) = refusalOf r
-
--- counts are 0 in a refusal
-abbrev pub totalOf : Total → ℕ
-totalOf (Counted all) = all .count
-totalOf (Refused r) = 0
-
--- since which level all links of the level stand, 0 in a refusal
-abbrev pub latestOf : Total → ℕ
-latestOf (Counted all) = all .since .0
-latestOf (Refused r) = 0

@@ -1,23 +1,16 @@
-// Read one neighbour by the direct walk, and unfold a whole level. Assumes nothing.
-mod filling; // filling.rt: the walks of a level into a table
-
+// Read one neighbour by the direct walk. Assumes nothing.
 use answers::Check;
-use answers::Dim;
 use answers::Level;
 use answers::Onward;
 use answers::Question;
 use answers::Refusal;
 use answers::Sizes;
-use filling::answer;
-use filling::clear;
-use filling::fill;
 ghost use mathlib.Core.Path.{_≡_};
 ghost use Prim.Native.Nat.{_≤_, _<_, max};
 ghost use Rattle.maps.specs.Read.{walkGives, walkSince, readLent, readSince};
-ghost use Rattle.maps.specs.Unfold.{unfoldLent, unfoldTotal, unfoldSince, unfoldLeaves};
 ghost use Rattle.answers.specs.Pyramid.{lent};
 ghost use Rattle.questions.specs.Lent.{Lent};
-ghost use Rattle.reading.specs.Answers.{valueOf, standsSince, checkOf, totalOf, latestOf};
+ghost use Rattle.reading.specs.Answers.{valueOf, standsSince};
 
 // A neighbour, the number of base entries read on the way to it, and since which level the link stands.
 pub struct Link {
@@ -32,20 +25,8 @@ pub enum Reading {
     Refused(Refusal),
 }
 
-// The count of all walks of a level, and since which level all its links stand.
-pub struct Unfolding {
-    pub count: u32,
-    pub since: Level,
-}
-
-// What all walks of a level give, or a refusal.
-pub enum Total {
-    Counted(Unfolding),
-    Refused(Refusal),
-}
-
 // The later of two levels.
-pub(crate) fn later(one: Level, other: Level) -> Level
+pub fn later(one: Level, other: Level) -> Level
     ensures { λ r. ⌜ r .0 ≡ max (one .0) (other .0) ⌝ }
 {
     if one.0 <= other.0 {
@@ -112,45 +93,5 @@ pub fn read(sizes: Sizes, rows: &[u16], lambda: &[u8], delta: &[u8], asked: Ques
     match questions::question(sizes, rows, lambda, delta, asked) {
         Check::Refused(r) => Reading::Refused(r),
         Check::Accepted => walk(sizes, rows, lambda, delta, asked),
-    }
-}
-
-// A whole level into the lent table by direct walks, with the total count and since which level all links stand; after 5, 14 and 15 the table is 65,535 throughout.
-pub fn unfold(
-    sizes: Sizes,
-    rows: &[u16],
-    lambda: &[u8],
-    delta: &[u8],
-    level: Level,
-    table: &mut [u16],
-) -> Total
-    ensures verdict { λ r. ⌜ checkOf r ≡ unfoldLent (lent sizes (rows .entry) (lambda .entry) (delta .entry)) (level .0) (now (table .entry)) ⌝ }
-    ensures total { λ r. ⌜ totalOf r ≡ unfoldTotal (lent sizes (rows .entry) (lambda .entry) (delta .entry)) (level .0) (now (table .entry)) ⌝ }
-    ensures since { λ r. ⌜ latestOf r ≡ unfoldSince (lent sizes (rows .entry) (lambda .entry) (delta .entry)) (level .0) (now (table .entry)) ⌝ }
-    ensures table_left { λ _. ⌜ now (table .exit) ≡ unfoldLeaves (lent sizes (rows .entry) (lambda .entry) (delta .entry)) (level .0) (now (table .entry)) ⌝ }
-{
-    let n = sizes.n;
-    let h = sizes.h;
-    let darts = sizes.darts;
-    let lent = answers::pyramid_fits(sizes, rows.len(), lambda.len(), delta.len());
-    let fit = answers::both(lent, answers::rows_fit(n, darts, table.len()));
-    let asked = Question {
-        level,
-        involution: Dim(0),
-        dart: 0,
-    };
-    if let Check::Refused(r) = answers::asked(sizes, fit, asked) {
-        return Total::Refused(r);
-    }
-    if let Check::Refused(r) = answers::marks_refusal(sizes, lambda, delta, level) {
-        return Total::Refused(r);
-    }
-    let sizes = Sizes { n, h, darts };
-    match answer(level, fill(sizes, rows, lambda, delta, level, table)) {
-        Total::Counted(all) => Total::Counted(all),
-        Total::Refused(r) => {
-            clear(table);
-            Total::Refused(r)
-        },
     }
 }

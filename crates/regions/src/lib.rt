@@ -8,9 +8,10 @@ use answers::ROOM;
 use answers::Refusal;
 use orbits::Search;
 ghost use mathlib.Core.Path.{_≡_};
+ghost use mathlib.Core.Bool.{true};
 ghost use Prim.Native.Nat.{ℕ, _≤_, _<_};
 ghost use lib.ListN.{length, getD};
-ghost use Rattle.maps.specs.Verdict.{scan};
+ghost use Rattle.maps.specs.Verdict.{accepted, scan};
 ghost use Rattle.maps.specs.Table.{entry, each};
 ghost use Rattle.maps.specs.Regions.{at23, regionsLent, regionsTable};
 ghost use Rattle.answers.specs.Pyramid.{lent};
@@ -18,8 +19,21 @@ ghost use Rattle.answers.specs.Numbers.{verdictOf};
 ghost use Rattle.orbits.specs.Choices.{uses, chosen};
 ghost use Rattle.regions.specs.Searches.{goesOn, RegionChoices, Leads, Lowests, Given, NamingLeaves};
 
-// The first contracted dart.
-fn contracted(darts: u16, delta: &[u8]) -> Check
+// Is no dart contracted? All are read in any case, so that the compiler may take many at once.
+fn none_contracted(darts: u16, delta: &[u8]) -> bool
+    requires { ⌜ length (now delta) ≡ darts ⌝ }
+    ensures { λ r. ⌜ (r ≡ true → scan darts (at23 (each (now (delta .entry)))) ≡ accepted) ⌝ }
+{
+    let mut any = false;
+    for d in 0..darts {
+        let at = d as usize;
+        any = any | answers::contracts(answers::delta_at(delta, at));
+    }
+    !any
+}
+
+// The first contracted dart, sought.
+fn first_contracted(darts: u16, delta: &[u8]) -> Check
     requires { ⌜ length (now delta) ≡ darts ⌝ }
     ensures { λ r. ⌜ verdictOf r ≡ scan darts (at23 (each (now (delta .entry)))) ⌝ }
 {
@@ -30,6 +44,17 @@ fn contracted(darts: u16, delta: &[u8]) -> Check
         }
     }
     Check::Accepted
+}
+
+// The first contracted dart, sought only where there is one.
+fn contracted(darts: u16, delta: &[u8]) -> Check
+    requires { ⌜ length (now delta) ≡ darts ⌝ }
+    ensures { λ r. ⌜ verdictOf r ≡ scan darts (at23 (each (now (delta .entry)))) ⌝ }
+{
+    if none_contracted(darts, delta) {
+        return Check::Accepted;
+    }
+    first_contracted(darts, delta)
 }
 
 // The rows by which a region goes on from a dart with these marks: a_n only where it is removed below the level with dimension n−1.
@@ -69,7 +94,7 @@ fn give(name: u16, queue: &[u16; ROOM], end: usize, names: &mut [u16])
 
 // The lowest dart of every orbit. Darts come in rising order, so the first of an orbit is its lowest; each dart is searched once.
 fn name_orbits(n: Dim, darts: u16, rows: &[u16], choices: &[u8; ROOM], names: &mut [u16])
-    requires { ⌜ Leads (n .0) darts (now rows) (now choices) × (length (now names) ≡ darts) ⌝ }
+    requires { ⌜ Leads (n .0) darts (now rows) (now choices) × (length (now names) ≡ darts) × (1 ≤ n .0) ⌝ }
     ensures { λ _. ⌜ Lowests (entry darts (now (rows .entry))) (n .0) darts (chosen (now (choices .entry))) (now (names .exit)) ⌝ }
 {
     let mut reached = [false; ROOM];

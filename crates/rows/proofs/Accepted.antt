@@ -1,33 +1,20 @@
--- The jobs' tests in two parts, the first as `asked` makes them, and what accepted tests of a row tell. Assumes nothing.
+-- The job's tests in two parts, the first as `asked` makes them, and what accepted tests tell. Assumes nothing.
 use mathlib.Core.Path.{_≡_}
 use mathlib.Core.Bool.{_&&_}
-use mathlib.Core.List.{List, []}
+use mathlib.Core.List.{List}
 use Prim.Native.Nat.{ℕ, suc, _+_, _*_, _≤_}
 use native.Mathlib.Nat.{mul-le-mul-right}
 use native.Mathlib.Omega.{arith}
 use lib.Dec.{ltb}
 use lib.ListN.{length}
 use borrow.Author.Tests.{ltb-false, eqb-true}
-use Rattle.maps.specs.Table.{each}
-use Rattle.maps.specs.Verdict.{accepted, _then_, scan}
+use Rattle.maps.specs.Verdict.{accepted, _then_}
 use Rattle.maps.specs.Sizes.{sizes, number4, number11, number13, hasLength}
-use Rattle.maps.specs.MarksBack.{atMarks8, marksLent}
 use Rattle.maps.specs.Row.{rowLent}
-use Rattle.maps.specs.Survivors.{atLambda8, survivorsLent}
 use Rattle.laws.proofs.Tables.{table-size, next-row}
 use Rattle.laws.proofs.Verdicts.{then-accepted, then-three, when-accepted}
 use Rattle.laws.proofs.Sizes.{lent-sized, both-equal}
 use Rattle.answers.specs.Lent.{lentOf, askedOf}
-
-module _ (n N h : ℕ) (lambda delta : List ℕ) (l : ℕ) (out : List ℕ) where
-  pub marks-lent : marksLent n N h lambda delta l out ≡ askedOf n N h (hasLength lambda N && (hasLength delta N && hasLength out N)) l 0 0 then scan N (atMarks8 n h (each lambda) (each delta) l)
-  unfolding marksLent atMarks8
-  marks-lent = then-three (sizes n N h) (number4 (hasLength lambda N && (hasLength delta N && hasLength out N))) (number11 h l 0 0) (scan N (atMarks8 n h (each lambda) (each delta) l))
-
-module _ (N h : ℕ) (lambda : List ℕ) (l : ℕ) (words : List ℕ) where
-  pub survivors-lent : survivorsLent N h lambda l words ≡ askedOf 1 N h (hasLength lambda N && hasLength words 64) l 0 0 then scan N (atLambda8 h (each lambda) l)
-  unfolding survivorsLent atLambda8
-  survivors-lent = then-three (sizes 1 N h) (number4 (hasLength lambda N && hasLength words 64)) (number11 h l 0 0) (scan N (atLambda8 h (each lambda) l))
 
 module _ (n N h : ℕ) (base unfolded : List ℕ) (l i : ℕ) where
   pub row-lent : rowLent n N h base unfolded l i ≡ askedOf n N h (hasLength base (suc n * N) && hasLength unfolded (suc n * N)) l i 0 then number13 n l i 0

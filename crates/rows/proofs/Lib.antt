@@ -1,3 +1,1 @@
 mod Accepted
-mod Ones
-pub mod Promises

@@ -1,4 +1,3 @@
-pub mod Numbering
 pub mod Renaming
 pub mod Renumbering
 pub mod FewerReads
@@ -7,7 +6,6 @@ pub mod PackedAgain
 pub mod StarStartedAgain
 mod Tests
 mod Reached
-mod Packs
 mod Whole
 pub mod SinceAgain
 pub mod Twice

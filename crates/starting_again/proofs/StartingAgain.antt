@@ -17,7 +17,7 @@ use Rattle.facts.proofs.Levels.{level-valid}
 use Rattle.laws.proofs.Sizes.{sizes-sized}
 use Rattle.facts.proofs.Facts.{Facts, facts}
 use Rattle.maps.specs.NewBase.{rank, oldNumber, newDarts, newHeight, newΛ, newΔ, newBase}
-use Rattle.starting_again.proofs.Numbering.{sum-at-most, count-both, count-passes, kth-is, kth-rank, kth-rises, sum-renumbered, count-renumbered}
+use Rattle.packing.proofs.Numbering.{sum-at-most, count-both, count-passes, kth-is, kth-rank, kth-rises, sum-renumbered, count-renumbered}
 use Rattle.starting_again.proofs.Renumbering.{Renumbered, on-old, on-new, alike, renumbered-pyramid}
 use Rattle.starting_again.proofs.FewerReads.{fewer-reads}
 

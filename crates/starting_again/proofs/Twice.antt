@@ -23,7 +23,7 @@ use Rattle.maps.specs.NewBase.{kth, rank, oldNumber, newDarts, newΛ, newΔ, ne
 use Rattle.maps.specs.Rebase.{packed, rebaseLent, rebaseDarts, rebaseHeight, rebaseRows, rebaseLambda, rebaseDelta, rebaseOld}
 use Rattle.laws.proofs.Counting.{count-same, count-le}
 use Rattle.laws.proofs.Tables.{listed-of, listed-same, place}
-use Rattle.starting_again.proofs.Numbering.{count-rises, kth-is, rank-one, count-renumbered}
+use Rattle.packing.proofs.Numbering.{count-rises, kth-is, rank-one, count-renumbered}
 use Rattle.starting_again.proofs.Renumbering.{Renumbered, ltb-raised, on-old, alike}
 use Rattle.starting_again.proofs.Tests.{passed, all-passed}
 use Rattle.starting_again.proofs.StartingAgain.{old-on, rank-below, rank-old, old-rank}

@@ -20,9 +20,9 @@ use Rattle.answers.proofs.Refusals.{refusal-keeps}
 use Rattle.checking.proofs.PyramidCheck.{Lent, check-passed}
 use Rattle.starting_again.specs.Answers.{Outcome, rebasing}
 use Rattle.starting_again.specs.Reaching.{Reached}
-use Rattle.starting_again.specs.Packing.{Inside}
-use Rattle.starting_again.proofs.Numbering.{kth-is}
-use Rattle.starting_again.proofs.Packs.{packed-same}
+use Rattle.packing.specs.Packing.{Inside}
+use Rattle.packing.proofs.Numbering.{kth-is}
+use Rattle.packing.proofs.Packs.{packed-same}
 use Rattle.starting_again.proofs.Tests.{passed}
 
 module _ (P : Folded) (table : List ℕ) (l : ℕ) (old : List ℕ) where

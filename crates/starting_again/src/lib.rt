@@ -1,6 +1,5 @@
 // Start again from a higher level: it becomes the base, and its survivors are packed to the front of what is lent. Assumes nothing.
 mod reaching; // reaching.rt: the kernels below the level, removed in the rows
-mod packing; // packing.rt: the survivors of the level, packed to the front
 
 use answers::AtLevel;
 use answers::Check;

@@ -58,8 +58,8 @@ module _ (f : Folded) (row : List ℕ) where
         allowed = λ d ld. rw (getD-listed Λ′ N d 0 ld, getD-listed Δ′ N d 0 ld) (allowed-added n N h (each lambda) (each delta) (each row) k d ld (b .allowed d ld));
       }
 
-  -- n+8 for each dart gone, those of the mark row among them
-  pub add-reads : (table : List ℕ) → addReads f row table ≤ (n + 8) * removedBelow N (lambdaOf (withRow f row)) (suc h)
+  -- 2n+8 for each dart gone, those of the mark row among them
+  pub add-reads : (table : List ℕ) → addReads f row table ≤ (2 * n + 8) * removedBelow N (lambdaOf (withRow f row)) (suc h)
   unfolding addReads
   add-reads table = go (addSizes f row table then addMarks f row) refl
     where
@@ -69,7 +69,7 @@ module _ (f : Folded) (row : List ℕ) where
       exact : Bool
       exact = hasLength rows (suc n * N) && (hasLength lambda N && (hasLength delta N && others))
 
-      go : (v : Verdict) → (addSizes f row table then addMarks f row) ≡ v → ifAccepted v (climbReads (withRow f row) (suc h)) 0 ≤ (n + 8) * removedBelow N (lambdaOf (withRow f row)) (suc h)
+      go : (v : Verdict) → (addSizes f row table then addMarks f row) ≡ v → ifAccepted v (climbReads (withRow f row) (suc h)) 0 ≤ (2 * n + 8) * removedBelow N (lambdaOf (withRow f row)) (suc h)
       go accepted e =
           let s = then-accepted (addSizes f row table) (addMarks f row) e in
           let t = then-accepted (lentOf n N h exact) (number20 h) (s .0) in

@@ -3,7 +3,6 @@ use mathlib.Core.Path.{_≡_, refl, sym, _∙_}
 use mathlib.Core.Bool.{Bool, true, false, cond}
 use mathlib.Core.List.{List}
 use Prim.Native.Nat.{ℕ, zero, suc, _+_, _-_, _*_, _≤_, _<_}
-use native.Mathlib.Nat.{mul-add}
 use native.Mathlib.Omega.{arith}
 use lib.Dec.{eqb, ltb}
 use borrow.Author.Tests.{ltb-true, lt-ltb, eqb-true}
@@ -11,10 +10,9 @@ use Rattle.maps.specs.Count.{sum}
 use Rattle.maps.specs.Table.{each}
 use Rattle.maps.specs.Folded.{gone, removedBelow}
 use Rattle.maps.specs.Join.{joinΛ}
-use Rattle.laws.proofs.Counting.{sum-const}
 use Rattle.kernels.specs.Strings.{Linked}
 use Rattle.turns.specs.Strings.{turnsAlong, turnsOver}
-use Rattle.turns.proofs.Counts.{count-within, sum-at-most}
+use Rattle.turns.proofs.Counts.{count-within}
 use Rattle.turns.proofs.Strings.{string-turns, stretch-turns}
 
 -- what is gone from a level is gone from every higher one
@@ -31,15 +29,6 @@ module _ {N : ℕ} {Λ : ℕ → ℕ} {head next : List ℕ} (s : Linked N Λ 0 
       let up = rises m (omega arith) in
       omega (arith, climb-turns cut times m (λ k l. rises k (omega arith)) (omega arith), stretch-turns s (times m) (cut m) (cut (suc m)) up low)
 
-  -- the same loop in each of n+1 rows, as `clear` clears them
-  pub clear-turns : (n : ℕ) (times : ℕ → ℕ → ℕ) (from to : ℕ) → from ≤ to → to ≤ 256 → suc n * removedBelow N Λ from + sum (λ i. turnsOver N head next (times i) from to) (suc n) ≤ suc n * removedBelow N Λ to
-  clear-turns n times from to l k =
-      let F = removedBelow N Λ from in
-      let D = removedBelow N Λ to - F in
-      let e : F + D ≡ removedBelow N Λ to = omega (arith, removed-rises N Λ from to l) in
-      let each = sum-at-most (λ i. turnsOver N head next (times i) from to) (λ i. D) (suc n) (λ i li. omega (arith, stretch-turns s (times i) from to l k)) in
-      rw (← e, mul-add (suc n) F D) (omega (arith, each, sum-const D (suc n)))
-
   -- Joining kernels l and l+1: the climb to level l and on from it is one climb.
   pub join-turns : (times : ℕ → ℕ → ℕ) (l h : ℕ) → l ≤ h → h ≤ 256 → turnsOver N head next (times 0) 0 l + turnsOver N head next (times 1) l h ≤ removedBelow N Λ h
   join-turns times l h k low = omega (arith, stretch-turns s (times 0) 0 l (omega arith) (omega arith), stretch-turns s (times 1) l h k low)
@@ -49,16 +38,6 @@ module _ {N : ℕ} {Λ : ℕ → ℕ} {head next : List ℕ} (s : Linked N Λ 0 
       → turnsOver N head next (times 0) 0 l + turnsOver N head next (times 1) l h + turnsOver N head₂ next₂ (times 2) 0 l ≤ 2 * removedBelow N Λ h
   join-turns-refused s₂ times l h k low =
       omega (arith, join-turns times l h k low, stretch-turns s₂ (times 2) 0 l (omega arith) (omega arith), removed-rises N Λ l h k)
-
-  -- and the rows that are cleared on them, n+1 for each kernel
-  pub join-clear : (n : ℕ) (times : ℕ → ℕ → ℕ → ℕ) (l h : ℕ) → l ≤ h → h ≤ 256 → sum (λ i. turnsOver N head next (times i 0) 0 l + turnsOver N head next (times i 1) l h) (suc n) ≤ suc n * removedBelow N Λ h
-  join-clear n times l h k low =
-      omega (arith, sum-at-most (λ i. turnsOver N head next (times i 0) 0 l + turnsOver N head next (times i 1) l h) (λ i. removedBelow N Λ h) (suc n) (λ i li. join-turns (times i) l h k low), sum-const (removedBelow N Λ h) (suc n))
-
-  pub join-clear-refused : {head₂ next₂ : List ℕ} → Linked N Λ 0 head₂ next₂ → (n : ℕ) (times : ℕ → ℕ → ℕ → ℕ) (l h : ℕ) → l ≤ h → h ≤ 256
-      → sum (λ i. turnsOver N head next (times i 0) 0 l + turnsOver N head next (times i 1) l h + turnsOver N head₂ next₂ (times i 2) 0 l) (suc n) ≤ suc n * (2 * removedBelow N Λ h)
-  join-clear-refused {head₂} {next₂} s₂ n times l h k low =
-      omega (arith, sum-at-most (λ i. turnsOver N head next (times i 0) 0 l + turnsOver N head next (times i 1) l h + turnsOver N head₂ next₂ (times i 2) 0 l) (λ i. 2 * removedBelow N Λ h) (suc n) (λ i li. join-turns-refused s₂ (times i) l h k low), sum-const (2 * removedBelow N Λ h) (suc n))
 
 -- The string of the joined kernel has the darts of both, which are gone from level h.
 pub joined-turns : {N : ℕ} {Λ′ : ℕ → ℕ} {head next : List ℕ} → Linked N Λ′ 0 head next → (Λ : ℕ → ℕ) (l h : ℕ) → ((d : ℕ) → d < N → Λ′ d ≡ joinΛ l Λ d) → suc l < h → h ≤ 256

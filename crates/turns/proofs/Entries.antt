@@ -1,4 +1,4 @@
--- The entries of the table that a climb reads, kernel by kernel, in the loops along its strings: at most n + 8 for each dart gone. That the loops read these is seen in the code. Assumes nothing.
+-- The entries of the table that a climb reads, kernel by kernel, in the loops along its strings: at most 2n + 8 for each dart gone, n + 8 where no kernel is refused. That the loops read these is seen in the code. Assumes nothing.
 use mathlib.Core.Path.{_≡_, refl, sym, ap, _∙_}
 use mathlib.Core.Bool.{Bool, true, false, cond, not, true≢false}
 use mathlib.Core.List.{List}
@@ -28,7 +28,7 @@ use Rattle.climbing.proofs.Steps.{climb-strung, climb-tested, kernel-is}
 use Rattle.checking.specs.Checked.{earlyOf}
 use Rattle.checking.proofs.PyramidCheck.{early-passed}
 
--- The tests: `whole` reads of each dart of the kernel every row but the first of its mark, `fitting` four entries where its mark has a row beyond.
+-- The tests with a yes or no: `together` reads of each dart of the kernel every row but the first of its mark, `commuting` four entries where its mark has a row beyond. Where the answer is no, `whole` and `fitting` seek the place and read no more.
 unfoldable pub testReads : ℕ → ℕ → (ℕ → ℕ) → ℕ
 testReads n N mark = sum (λ d. cond (isMark n (mark d)) (n + cond (hasBeyond n (mark d)) 4 0) 0) N
 
@@ -36,11 +36,11 @@ testReads n N mark = sum (λ d. cond (isMark n (mark d)) (n + cond (hasBeyond n 
 unfoldable pub kernelReads : ℕ → ℕ → (ℕ → ℕ) → List ℕ → ℕ
 kernelReads n N mark table = testReads n N mark + relinkReads n N mark table
 
--- Kernel k of a climb, on the table that holds its level: nothing where a kernel below was refused, the tests alone where it is refused itself.
+-- Kernel k of a climb, on the table that holds its level: nothing where a kernel below was refused; the tests, twice, where it is refused itself.
 unfoldable pub stepReads : Folded → ℕ → ℕ
 stepReads f k =
     let row = kernelRow (f .lambda) (f .delta) k in
-    ifAccepted (climbsTo f k) (ifAccepted (kernelOf f k) (kernelReads (f .n) (f .N) row (tableAt f k)) (testReads (f .n) (f .N) row)) 0
+    ifAccepted (climbsTo f k) (ifAccepted (kernelOf f k) (kernelReads (f .n) (f .N) row (tableAt f k)) (2 * testReads (f .n) (f .N) row)) 0
 
 -- All kernels below level l.
 unfoldable pub climbReads : Folded → ℕ → ℕ
@@ -107,25 +107,47 @@ module _ (f : Folded) (b : Base f) where
         let t = climb-tested here m in
         record { tested = t; kernel = kernel-sound (entry (f .N) (tableAt f k)) (f .n) (f .N) (row k) k (There (f .N) (present (f .N) (tableAt f k))) (t .sound .valid) (λ d o. o .0) (kernel-is here m ∙ q) }
 
-  -- one kernel, accepted or not
-  step-reads : (k : ℕ) → k < f .h → stepReads f k ≤ (f .n + 8) * count (λ d. eqb (lambdaOf f d) k) (f .N)
+  -- the darts of one kernel
+  abbrev sizeOf : ℕ → ℕ
+  sizeOf k = count (λ d. eqb (lambdaOf f d) k) (f .N)
+
+  -- one kernel that is accepted, and one that may be refused
+  step-accepted : (k : ℕ) → k < f .h → climbsTo f k ≡ accepted → kernelOf f k ≡ accepted → stepReads f k ≤ (f .n + 8) * sizeOf k
+  unfolding stepReads
+  step-accepted k m p q = rw (p, q) (rw (size k m p) at (kernel-reads (ready k m p q)))
+
+  step-reads : (k : ℕ) → k < f .h → stepReads f k ≤ (2 * f .n + 8) * sizeOf k
   unfolding stepReads
   step-reads k m = go (climbsTo f k) refl (kernelOf f k) refl
     where
-      go : (v : Verdict) → climbsTo f k ≡ v → (w : Verdict) → kernelOf f k ≡ w → ifAccepted v (ifAccepted w (kernelReads (f .n) (f .N) (row k) (tableAt f k)) (testReads (f .n) (f .N) (row k))) 0 ≤ (f .n + 8) * count (λ d. eqb (lambdaOf f d) k) (f .N)
-      go accepted p accepted q = rw (size k m p) at (kernel-reads (ready k m p q))
+      go : (v : Verdict) → climbsTo f k ≡ v → (w : Verdict) → kernelOf f k ≡ w → stepReads f k ≤ (2 * f .n + 8) * sizeOf k
+      go accepted p accepted q =
+          let e : f .n + (f .n + 8) ≡ 2 * f .n + 8 = omega arith in
+          omega (arith, step-accepted k m p q, add-mul (f .n) (f .n + 8) (sizeOf k), ap (λ (z : ℕ). z * sizeOf k) e)
       go accepted p (refused x l i d) q =
-          let C = count (λ d. eqb (lambdaOf f d) k) (f .N) in
-          let e : f .n + 4 + 4 ≡ f .n + 8 = omega arith in
-          omega (arith, rw (size k m p) at (test-reads (f .n) (f .N) (row k)), add-mul (f .n + 4) 4 C, ap (λ (z : ℕ). z * C) e)
-      go (refused x l i d) p w q = omega arith
+          let e : f .n + 4 + (f .n + 4) ≡ 2 * f .n + 8 = omega arith in
+          let t = rw (size k m p) at (test-reads (f .n) (f .N) (row k)) in
+          rw (p, q) (omega (arith, t, add-mul (f .n + 4) (f .n + 4) (sizeOf k), ap (λ (z : ℕ). z * sizeOf k) e))
+      go (refused x l i d) p w q = rw p (omega arith)
 
   -- all kernels below a level, up to the first that is refused
-  pub climb-reads : (l : ℕ) → l ≤ f .h → climbReads f l ≤ (f .n + 8) * removedBelow (f .N) (lambdaOf f) l
+  pub climb-reads : (l : ℕ) → l ≤ f .h → climbReads f l ≤ (2 * f .n + 8) * removedBelow (f .N) (lambdaOf f) l
   unfolding climbReads sum
   climb-reads zero k = omega arith
   climb-reads (suc l) k =
-      rw (removed-suc (lambdaOf f) l (f .N), mul-add (f .n + 8) (removedBelow (f .N) (lambdaOf f) l) (count (λ d. eqb (lambdaOf f d) l) (f .N))) (omega (arith, climb-reads l (omega arith), step-reads l k))
+      rw (removed-suc (lambdaOf f) l (f .N), mul-add (2 * f .n + 8) (removedBelow (f .N) (lambdaOf f) l) (sizeOf l)) (omega (arith, climb-reads l (omega arith), step-reads l k))
+
+  -- and where none is
+  pub climb-accepted : (l : ℕ) → l ≤ f .h → climbsTo f l ≡ accepted → climbReads f l ≤ (f .n + 8) * removedBelow (f .N) (lambdaOf f) l
+  unfolding climbReads sum
+  climb-accepted l m e = go l (omega arith)
+    where
+      go : (k : ℕ) → k ≤ l → climbReads f k ≤ (f .n + 8) * removedBelow (f .N) (lambdaOf f) k
+      go zero g = omega arith
+      go (suc k) g =
+          let below : climbsTo f k ≡ accepted = scan-all k (kernelOf f) (λ x y. scan-accepted l (kernelOf f) e x (omega arith)) in
+          let here = step-accepted k (omega arith) below (scan-accepted l (kernelOf f) e k g) in
+          rw (removed-suc (lambdaOf f) k (f .N), mul-add (f .n + 8) (removedBelow (f .N) (lambdaOf f) k) (sizeOf k)) (omega (arith, go k (omega arith), here))
 
   -- the removals alone, of kernels that are accepted, as a new base climbs
   pub relinks-reads : (l : ℕ) → l ≤ f .h → climbsTo f l ≡ accepted → sum (λ k. relinkReads (f .n) (f .N) (row k) (tableAt f k)) l ≤ 4 * removedBelow (f .N) (lambdaOf f) l
@@ -145,10 +167,19 @@ unfoldable pub checkReads : Folded → List ℕ → ℕ
 checkReads f table = ifAccepted (earlyOf f table) (climbReads f (f .h)) 0
 
 -- of any input at all
-pub check-reads : (f : Folded) (table : List ℕ) → checkReads f table ≤ (f .n + 8) * removedBelow (f .N) (lambdaOf f) (f .h)
+pub check-reads : (f : Folded) (table : List ℕ) → checkReads f table ≤ (2 * f .n + 8) * removedBelow (f .N) (lambdaOf f) (f .h)
 unfolding checkReads
 check-reads f table = go (earlyOf f table) refl
   where
-    go : (v : Verdict) → earlyOf f table ≡ v → ifAccepted v (climbReads f (f .h)) 0 ≤ (f .n + 8) * removedBelow (f .N) (lambdaOf f) (f .h)
+    go : (v : Verdict) → earlyOf f table ≡ v → ifAccepted v (climbReads f (f .h)) 0 ≤ (2 * f .n + 8) * removedBelow (f .N) (lambdaOf f) (f .h)
     go accepted e = climb-reads f (early-passed f table e .1) (f .h) (omega arith)
+    go (refused x l i d) e = omega arith
+
+-- of a pyramid whose kernels are accepted
+pub check-accepted : (f : Folded) (table : List ℕ) → climbsTo f (f .h) ≡ accepted → checkReads f table ≤ (f .n + 8) * removedBelow (f .N) (lambdaOf f) (f .h)
+unfolding checkReads
+check-accepted f table q = go (earlyOf f table) refl
+  where
+    go : (v : Verdict) → earlyOf f table ≡ v → ifAccepted v (climbReads f (f .h)) 0 ≤ (f .n + 8) * removedBelow (f .N) (lambdaOf f) (f .h)
+    go accepted e = climb-accepted f (early-passed f table e .1) (f .h) (omega arith) q
     go (refused x l i d) e = omega arith

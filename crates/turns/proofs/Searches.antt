@@ -10,9 +10,10 @@ use lib.ListN.{length, length-replicate}
 use lib.Dec.{eqb, ltb}
 use Rattle.maps.specs.Count.{count, sum}
 use Rattle.maps.specs.Map.{Involutions}
-use Rattle.maps.specs.Table.{entry, each}
-use Rattle.maps.specs.Folded.{survives, survivors, marks, level, levelTable, Folded, ofParts}
+use Rattle.maps.specs.Table.{entry}
+use Rattle.maps.specs.Folded.{survives, survivors, marks, level, Folded, base, lambdaOf, deltaOf}
 use Rattle.maps.specs.Accepted.{Accepted}
+use Rattle.maps.specs.CheckPyramid.{tableAt}
 use Rattle.maps.specs.Explicit.{present}
 use Rattle.laws.proofs.Counting.{count-le, count-same, count-minus, sum-const}
 use Rattle.laws.proofs.Verdicts.{and-both}
@@ -255,38 +256,34 @@ but-count : (n i : ℕ) → i ≤ n → count (but i) (suc n) ≡ n
 but-count n i l = omega (arith, count-minus (λ j. true) i (suc n) (omega arith) refl, all-count (suc n))
 
 -- a census of an accepted pyramid: on each level, for each dimension i, by every row but a_i
-module _ (n N h : ℕ) (rows lambda delta table : List ℕ) (p : Accepted (ofParts n N h rows lambda delta) table) (queue : ℕ → ℕ → List ℕ) (z : (l i : ℕ) → length (queue l i) ≡ 4096)
-    (cell : ℕ → ℕ → ℕ → Bool) (is : (i j d : ℕ) → i ≤ n → j ≤ n → d < N → cell i j d ≡ but i j) where
-  abbrev f : Folded
-  f = ofParts n N h rows lambda delta
+module _ (f : Folded) (table : List ℕ) (p : Accepted f table) (queue : ℕ → ℕ → List ℕ) (z : (l i : ℕ) → length (queue l i) ≡ 4096)
+    (cell : ℕ → ℕ → ℕ → Bool) (is : (i j d : ℕ) → i ≤ f .n → j ≤ f .n → d < f .N → cell i j d ≡ but i j) where
+  open Folded f using (n, N, h)
 
-  abbrev T : ℕ → List ℕ
-  T l = levelTable (entry N rows) n N h (each lambda) (each delta) l
-
-  present-count : (l : ℕ) → l ≤ h → count (present N (T l)) N ≡ survivors N (each lambda) l
+  present-count : (l : ℕ) → l ≤ h → count (present N (tableAt f l)) N ≡ survivors N (lambdaOf f) l
   present-count l k =
-      let L = level (entry N rows) n N (marks h (each lambda) (each delta)) l in
-      count-same (present N (T l)) (survives (each lambda) l) N (stored-present L n N (survives (each lambda) l) (omega (arith, p .darts .1)) (survivors-valid (entry N rows) n N h (each lambda) (each delta) (p .pyramid) l k))
+      let L = level (base f) n N (marks h (lambdaOf f) (deltaOf f)) l in
+      count-same (present N (tableAt f l)) (survives (lambdaOf f) l) N (stored-present L n N (survives (lambdaOf f) l) (omega (arith, p .darts .1)) (survivors-valid (base f) n N h (lambdaOf f) (deltaOf f) (p .pyramid) l k))
 
   -- one dimension
-  dimension-work : (l i : ℕ) → l ≤ h → i ≤ n → (countedCells n N (T l) (cell i) (queue l i) .firsts ≤ survivors N (each lambda) l) × (countedCells n N (T l) (cell i) (queue l i) .entries ≤ n * survivors N (each lambda) l)
+  dimension-work : (l i : ℕ) → l ≤ h → i ≤ n → (countedCells n N (tableAt f l) (cell i) (queue l i) .firsts ≤ survivors N (lambdaOf f) l) × (countedCells n N (tableAt f l) (cell i) (queue l i) .entries ≤ n * survivors N (lambdaOf f) l)
   dimension-work l i k li =
-      rw (present-count l k) at (count-queues n N (T l) (table-explicit n N h rows lambda delta table p l k) (cell i) n
+      rw (present-count l k) at (count-queues n N (tableAt f l) (table-explicit f table p l k) (cell i) n
       (λ d ld. omega (arith, but-count n i li, count-same (λ j. cell i j d) (but i) (suc n) (λ j lj. is i j d li (omega arith) ld))) (queue l i) (z l i))
 
-  pub census-level : (l : ℕ) → l ≤ h → (queuedOn f cell queue l ≤ suc n * survivors N (each lambda) l) × (readOn f cell queue l ≤ suc n * (n * survivors N (each lambda) l))
+  pub census-level : (l : ℕ) → l ≤ h → (queuedOn f cell queue l ≤ suc n * survivors N (lambdaOf f) l) × (readOn f cell queue l ≤ suc n * (n * survivors N (lambdaOf f) l))
   census-level l k =
-      let S = survivors N (each lambda) l in
-      let W : ℕ → Work = λ i. countedCells n N (T l) (cell i) (queue l i) in (
+      let S = survivors N (lambdaOf f) l in
+      let W : ℕ → Work = λ i. countedCells n N (tableAt f l) (cell i) (queue l i) in (
         omega (arith, sum-at-most (λ i. W i .firsts) (λ i. S) (suc n) (λ i li. dimension-work l i k (omega arith) .0), sum-const S (suc n)),
         omega (arith, sum-at-most (λ i. W i .entries) (λ i. n * S) (suc n) (λ i li. dimension-work l i k (omega arith) .1), sum-const (n * S) (suc n)),
       )
 
   -- all levels together: (n+1) darts queued, and n(n+1) entries read, for each survivor of each level
-  pub census-queues : (sum (queuedOn f cell queue) (suc h) ≤ sum (λ l. suc n * survivors N (each lambda) l) (suc h)) × (sum (readOn f cell queue) (suc h) ≤ sum (λ l. suc n * (n * survivors N (each lambda) l)) (suc h))
+  pub census-queues : (sum (queuedOn f cell queue) (suc h) ≤ sum (λ l. suc n * survivors N (lambdaOf f) l) (suc h)) × (sum (readOn f cell queue) (suc h) ≤ sum (λ l. suc n * (n * survivors N (lambdaOf f) l)) (suc h))
   census-queues = (
-    sum-at-most (queuedOn f cell queue) (λ l. suc n * survivors N (each lambda) l) (suc h) (λ l k. census-level l (omega arith) .0),
-    sum-at-most (readOn f cell queue) (λ l. suc n * (n * survivors N (each lambda) l)) (suc h) (λ l k. census-level l (omega arith) .1),
+    sum-at-most (queuedOn f cell queue) (λ l. suc n * survivors N (lambdaOf f) l) (suc h) (λ l k. census-level l (omega arith) .0),
+    sum-at-most (readOn f cell queue) (λ l. suc n * (n * survivors N (lambdaOf f) l)) (suc h) (λ l k. census-level l (omega arith) .1),
   )
 
 -- region names: the orbits of all darts of the base, by the rows of their choices, which lead to darts

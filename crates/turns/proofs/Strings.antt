@@ -2,7 +2,7 @@
 use mathlib.Core.Path.{_≡_, refl, ap}
 use mathlib.Core.Bool.{Bool, true, false, cond}
 use mathlib.Core.List.{List}
-use Prim.Native.Nat.{ℕ, zero, suc, _+_, _-_, _≤_, _<_}
+use Prim.Native.Nat.{ℕ, zero, suc, _+_, _-_, _*_, _≤_, _<_}
 use native.Mathlib.Omega.{arith}
 use lib.Dec.{eqb, ltb}
 use borrow.Author.Tests.{ltb-true, ltb-false, eqb-true}
@@ -13,8 +13,29 @@ use Rattle.maps.specs.Folded.{removedBelow}
 use Rattle.laws.proofs.Counting.{count-more}
 use Rattle.facts.proofs.Turns.{removed-suc}
 use Rattle.kernels.specs.Strings.{kernelRow, First, Along, Linked, Strung}
-use Rattle.turns.specs.Strings.{turnsAlong, turnsOver}
+use Rattle.turns.specs.Strings.{turnsAlong, turnsAlike, alikeOver, turnsOver}
 use Rattle.turns.proofs.Counts.{count-still, count-rises}
+
+-- the loops along the runs of a string turn at most twice as often as one along the string does, whatever the marks
+alike-turns : (mark : ℕ → ℕ) (N : ℕ) (next : List ℕ) (times m d : ℕ) → turnsAlike mark N next times m d ≤ 2 * turnsAlong N next times d
+unfolding turnsAlike turnsAlong
+alike-turns mark N next zero m d = omega arith
+alike-turns mark N next (suc times) m d = go (ltb d N) (eqb (mark d) m) (alike-turns mark N next times (mark d) (each next d))
+  where
+    go : (x y : Bool) → turnsAlike mark N next times (mark d) (each next d) ≤ 2 * turnsAlong N next times (each next d)
+        → cond x (cond y 1 2 + turnsAlike mark N next times (mark d) (each next d)) 0 ≤ 2 * cond x (suc (turnsAlong N next times (each next d))) 0
+    go true true h = omega arith
+    go true false h = omega arith
+    go false y h = omega arith
+
+-- and so do those of the strings of all kernels of a stretch
+pub alike-over : (mark : ℕ → ℕ) (N : ℕ) (head next : List ℕ) (times : ℕ → ℕ) (from to : ℕ) → alikeOver mark N head next times from to ≤ 2 * turnsOver N head next times from to
+unfolding alikeOver turnsOver sum
+alike-over mark N head next times from to = go (to - from)
+  where
+    go : (m : ℕ) → sum (λ l. turnsAlike mark N next (times (from + l)) (mark (each head (from + l))) (each head (from + l))) m ≤ 2 * sum (λ l. turnsAlong N next (times (from + l)) (each head (from + l))) m
+    go zero = omega arith
+    go (suc m) = omega (arith, go m, alike-turns mark N next (times (from + m)) (mark (each head (from + m))) (each head (from + m)))
 
 -- one string
 module _ (test : ℕ → Bool) (N : ℕ) (next : List ℕ) (onward : (d : ℕ) → d < N → test d ≡ true → First test N (d + 1) (each next d)) where

@@ -38,13 +38,13 @@ use Rattle.kernels.specs.Strings.{kernelRow, Linked, Strung}
 use Rattle.kernels.specs.Ready.{Ready}
 use Rattle.climbing.specs.Climb.{Base, climbs, Climbed}
 use Rattle.climbing.proofs.Steps.{climb-tested, climb-strung, kernel-is}
-use Rattle.unfolding.proofs.Strings.{strings}
+use Rattle.stacking.proofs.Strings.{strings}
 use Rattle.checking.proofs.PyramidCheck.{check-passed}
-use Rattle.unfolding.specs.Carried.{leads, Led, counted, Fits}
+use Rattle.carrying.specs.Carried.{leads, Led, counted, Fits}
 use Rattle.unfolding.specs.Told.{totalOn, latestOn}
-use Rattle.unfolding.proofs.Local.{counts-stay, counts-local}
-use Rattle.unfolding.proofs.Leading.{Leading, leading}
-use Rattle.unfolding.proofs.Stacks.{block-long}
+use Rattle.carrying.proofs.Local.{counts-stay, counts-local}
+use Rattle.carrying.proofs.Leading.{Leading, leading}
+use Rattle.stacking.proofs.Stacks.{block-long}
 use Rattle.unfolding.proofs.Totals.{largest-same}
 
 -- nothing is gone from level 0

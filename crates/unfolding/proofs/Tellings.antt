@@ -18,9 +18,9 @@ use Rattle.laws.proofs.Tables.{listed-of, getD-listed, table-size, in-table}
 use Rattle.kernels.specs.Strings.{kernelRow, Linked, Strung}
 use Rattle.kernels.specs.Ready.{Ready}
 use Rattle.climbing.proofs.Rows.{RowTo, row-none, row-set}
-use Rattle.unfolding.specs.Carried.{Led, counted, Fits}
+use Rattle.carrying.specs.Carried.{Led, counted, Fits}
 use Rattle.unfolding.specs.Told.{Levels, totalOn, latestOn}
-use Rattle.unfolding.proofs.Stacks.{stacked-long, stacked-block}
+use Rattle.stacking.proofs.Stacks.{stacked-long, stacked-block}
 use Rattle.unfolding.proofs.Levelled.{based, height, CountsAt, SinceAt, counts-base, since-base, kernel-ready, kernel-strung, counts-fit, count-next, since-next, total-told, latest-told, latest-few}
 
 -- the counts and levels since which of level l stand in the tables, and those of the levels below are told

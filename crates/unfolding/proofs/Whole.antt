@@ -19,9 +19,9 @@ use Rattle.answers.specs.Numbers.{refusalOf}
 use Rattle.answers.specs.Lent.{lentOf}
 use Rattle.answers.specs.declared.Refusal.{Refusal}
 use Rattle.answers.proofs.Refusals.{refusal-keeps, refused-then}
-use Rattle.unfolding.specs.Stacked.{stackSizes, stackLent, stackLeaves}
+use Rattle.stacking.specs.Stacked.{stackSizes, stackLent, stackLeaves}
 use Rattle.unfolding.specs.Told.{Levels}
-use Rattle.unfolding.proofs.Lengths.{early-none, lengths-early, none-left, stack-fits, stack-room}
+use Rattle.stacking.proofs.Lengths.{early-none, lengths-early, none-left, stack-fits, stack-room}
 
 -- lengths that are tested apart
 and-apart : (a b c d e : Bool) → (a && (b && (c && (d && e)))) ≡ ((a && (b && (c && d))) && e)

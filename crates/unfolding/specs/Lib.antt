@@ -1,3 +1,1 @@
-pub mod Stacked
-pub mod Carried
 pub mod Told

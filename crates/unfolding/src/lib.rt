@@ -1,6 +1,4 @@
 // Unfold all levels in one call: each explicit level in a block of its own, and what unfolding it counts. The counts are carried from one level to the next, so that no walk is walked again.
-mod carrying; // carrying.rt: a number for each link, carried along where a kernel is taken out
-mod stacking; // stacking.rt: the levels climbed, each in its own block
 mod telling; // telling.rt: what unfolding each level counts
 
 use answers::Check;

@@ -1,12 +1,12 @@
 // What unfolding each level counts: the sum of its counts, and the largest level since which. A count and a level for each link, 80 KiB, and the strings of the darts by kernel are all the local memory here.
-use super::carrying::carry;
-use super::carrying::date;
 use answers::ABSENT;
 use answers::Dim;
 use answers::Level;
 use answers::MOST_ENTRIES;
 use answers::ROOM;
 use answers::Sizes;
+use carrying::carry;
+use carrying::date;
 use kernels::HEADS;
 use kernels::Kernel;
 ghost use mathlib.Core.Path.{_≡_};

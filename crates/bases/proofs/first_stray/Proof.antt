@@ -2,7 +2,6 @@
 use mathlib.Core.Path.{sym, ap}
 use native.Mathlib.Omega.{arith}
 use denote.Ref.{now}
-use borrow.Author.Tests.{not-true}
 use Rattle.bases.specs.Places.{numberOf}
 use Rattle.bases.proofs.Places.{base-none}
 use borrow.Author.Needs.{needs}
@@ -15,7 +14,7 @@ largest-requires c κs = search needs
 returns : tie.Need-returns
 returns c =
     let a = c .before .before .before .before .args in
-    sym (base-none (a .explicit) (a .n .0) (a .darts) (now (a .table)) (not-true _ (c .before .before .if1 .taken)) (c .before .before .before .before .pre .exact) (λ k l. omega (arith, c .before .largest .ensures k l)))
+    sym (base-none (a .explicit) (a .n .0) (a .darts) (now (a .table)) (c .before .before .before .before .pre) (λ k l. omega (arith, c .before .largest .ensures k l)))
 
 sought-requires : tie.Need-sought-requires
 sought-requires c κs = (c .before .before .pre, λ e. let z = ap numberOf e in absurd (omega arith))

@@ -28,14 +28,14 @@ returns c =
     let a = start k .args in
     let r = c .before .r .given in
     let e = told (k .check .ensures .0) (r .1) in
-    (e, (k .check .ensures .1, census-refused (a .sizes .n .0) (a .sizes .darts) (a .sizes .h .0) (now (a .rows)) (now (a .lambda)) (now (a .delta)) (now (a .table)) (now (a .cells)) (now (a .sums)) (r .0 .0) e))
+    (e, (k .check .ensures .1, census-refused (lent (a .sizes) (a .rows) (a .lambda) (a .delta)) (now (a .table)) (now (a .cells)) (now (a .sums)) (r .0 .0) e))
 
 count-levels-requires : tie.Need-count-levels-requires
 count-levels-requires c κs =
     let e = c .before in
     let k = checked e in
     let a = start k .args in
-    left-accepted (a .sizes .n .0) (a .sizes .darts) (a .sizes .h .0) (now (a .rows)) (now (a .lambda)) (now (a .delta)) (now (a .table)) (now (a .cells)) (now (a .sums)) (fine e) _ (k .check .ensures .1)
+    left-accepted (lent (a .sizes) (a .rows) (a .lambda) (a .delta)) (now (a .table)) (now (a .cells)) (now (a .sums)) (fine e) _ (k .check .ensures .1)
 
 sums-of-requires : tie.Need-sums-of-requires
 sums-of-requires c κs =
@@ -43,7 +43,8 @@ sums-of-requires c κs =
     let e = g .before .before in
     let k = checked e in
     let a = start k .args in
-    counted-few (a .sizes .n .0) (a .sizes .darts) (a .sizes .h .0) (now (a .rows)) (now (a .lambda)) (now (a .delta)) _ (left-accepted (a .sizes .n .0) (a .sizes .darts) (a .sizes .h .0) (now (a .rows)) (now (a .lambda)) (now (a .delta)) (now (a .table)) (now (a .cells)) (now (a .sums)) (fine e) _ (k .check .ensures .1)) (g .count-levels .result) (g .count-levels .ensures .0)
+    let P = lent (a .sizes) (a .rows) (a .lambda) (a .delta) in
+    counted-few P _ (left-accepted P (now (a .table)) (now (a .cells)) (now (a .sums)) (fine e) _ (k .check .ensures .1)) (g .count-levels .result) (g .count-levels .ensures .0)
 
 returns-2 : tie.Need-returns-2
 returns-2 c =
@@ -51,7 +52,8 @@ returns-2 c =
     let e = g .before .before in
     let k = checked e in
     let a = start k .args in
-    (fine e, (left-table (a .sizes .n .0) (a .sizes .darts) (a .sizes .h .0) (now (a .rows)) (now (a .lambda)) (now (a .delta)) (now (a .table)) (now (a .cells)) (now (a .sums)) (fine e) _ (g .count-levels .ensures .1), census-left (a .sizes .n .0) (a .sizes .darts) (a .sizes .h .0) (now (a .rows)) (now (a .lambda)) (now (a .delta)) (now (a .table)) (now (a .cells)) (now (a .sums)) (fine e) (g .count-levels .result) (c .sums-of .result) (g .count-levels .ensures .0) (c .sums-of .ensures)))
+    let P = lent (a .sizes) (a .rows) (a .lambda) (a .delta) in
+    (fine e, (left-table P (now (a .table)) (now (a .cells)) (now (a .sums)) (fine e) _ (g .count-levels .ensures .1), census-left P (now (a .table)) (now (a .cells)) (now (a .sums)) (fine e) (g .count-levels .result) (c .sums-of .result) (g .count-levels .ensures .0) (c .sums-of .ensures)))
 
 pub census-spec : {M : Type 1} → statement M
 census-spec =

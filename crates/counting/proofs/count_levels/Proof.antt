@@ -6,8 +6,8 @@ use native.Mathlib.Omega.{arith}
 use lib.ListN.{length, getD-replicate}
 use denote.Ref.{now}
 use borrow.Author.Needs.{needs}
-use Rattle.maps.specs.Folded.{ofParts}
 use Rattle.maps.specs.CheckPyramid.{tableAt}
+use Rattle.answers.specs.Pyramid.{pyramid, lent}
 use Rattle.climbing.specs.Climb.{Climbed, climbToLeaves}
 use Rattle.climbing.proofs.Steps.{climb-none, climb-reached}
 use Rattle.counting.specs.Counts.{LevelCounted, Counted}
@@ -19,8 +19,8 @@ use Rattle.counting.proofs.count_levels.Tie as tie
 abbrev Inv-loop : tie.InvT-loop
 Inv-loop sizes rows lambda delta table₀ head next n darts counts₀ top l₀ table counts l =
     (l ≤ top)
-    × Climbed (ofParts (sizes .n .0) (sizes .darts) (sizes .h .0) rows lambda delta) l head next table
-    × Counted (sizes .n .0) (sizes .darts) (sizes .h .0) rows lambda delta counts (l + 1)
+    × Climbed (pyramid sizes rows lambda delta) l head next table
+    × Counted (pyramid sizes rows lambda delta) counts (l + 1)
 
 abbrev μ-loop : tie.MeasureT-loop
 μ-loop sizes rows lambda delta table₀ head next n darts counts₀ top l₀ table counts l = top - l
@@ -50,10 +50,11 @@ count-level-requires c κs =
     let s = origin b in
     let a = s .args in
     let z = a .sizes in
-    let low = climb-base (z .n .0) (z .darts) (z .h .0) (now (a .rows)) (now (a .lambda)) (now (a .delta)) (now (a .table)) (s .pre) 0 zero-le in
+    let P = lent z (a .rows) (a .lambda) (a .delta) in
+    let low = climb-base P (now (a .table)) (s .pre) 0 zero-le in
     let climbed = climb-none low (b .begin .ensures .0) (b .begin .ensures .1) in
-    let is = climbed .holds ∙ sym (table-climbed (z .n .0) (z .darts) (z .h .0) (now (a .rows)) (now (a .lambda)) (now (a .delta)) (now (a .table)) (s .pre) 0 zero-le) in
-    climbed-explicit (z .n .0) (z .darts) (z .h .0) (now (a .rows)) (now (a .lambda)) (now (a .delta)) (now (a .table)) (s .pre) 0 zero-le _ is
+    let is = climbed .holds ∙ sym (table-climbed P (now (a .table)) (s .pre) 0 zero-le) in
+    (climbed-explicit P (now (a .table)) (s .pre) 0 zero-le _ is, s .pre .dimension .0)
 
 zeros-requires : tie.Need-zeros-requires Inv-loop μ-loop
 zeros-requires c κs = search needs
@@ -67,16 +68,14 @@ loop-holds c =
     let s = origin b in
     let a = s .args in
     let z = a .sizes in
-    let rows = now (a .rows) in
-    let lambda = now (a .lambda) in
-    let delta = now (a .delta) in
-    let low = climb-base (z .n .0) (z .darts) (z .h .0) rows lambda delta (now (a .table)) (s .pre) 0 zero-le in
+    let P = lent z (a .rows) (a .lambda) (a .delta) in
+    let low = climb-base P (now (a .table)) (s .pre) 0 zero-le in
     let climbed = climb-none low (b .begin .ensures .0) (b .begin .ensures .1) in
     let first = c .before .before .count-level in
-    let none = subst (λ (t : List (List ℕ)). Counted (z .n .0) (z .darts) (z .h .0) rows lambda delta t 0) (sym (c .before .zeros .ensures)) (counted-none (z .n .0) (z .darts) (z .h .0) rows lambda delta) in
+    let none = subst (λ (t : List (List ℕ)). Counted P t 0) (sym (c .before .zeros .ensures)) (counted-none P) in
     let row = subst (λ (t : List ℕ). LevelCounted (z .n .0) (z .darts) t (first .result)) (climbed .holds) (first .ensures) in
-    let one = counted-row (z .n .0) (z .darts) (z .h .0) rows lambda delta (now (a .table)) (s .pre) (c .before .zeros .result) 0 zero-le none (first .result) row in
-    (zero-le, climbed, subst (λ (t : List (List ℕ)). Counted (z .n .0) (z .darts) (z .h .0) rows lambda delta t (0 + 1)) (sym (c .with-row .ensures)) one)
+    let one = counted-row P (now (a .table)) (s .pre) (c .before .zeros .result) 0 zero-le none (first .result) row in
+    (zero-le, climbed, subst (λ (t : List (List ℕ)). Counted P t (0 + 1)) (sym (c .with-row .ensures)) one)
 
 add-t28 : tie.Need-add-t28 Inv-loop μ-loop
 add-t28 c = search needs
@@ -90,7 +89,7 @@ go-on-requires c κs =
 reached : (c : tie.After-go-on Inv-loop μ-loop)
     → let o = turn c .before in
     let z = start o .args .sizes in
-    (o .loop .l + 1 ≤ z .h .0) × (c .go-on .last .1 .1 .1 .1 .1 .0 ≡ climbToLeaves (ofParts (z .n .0) (z .darts) (z .h .0) (now (start o .args .rows)) (now (start o .args .lambda)) (now (start o .args .delta))) (o .loop .l + 1))
+    (o .loop .l + 1 ≤ z .h .0) × (c .go-on .last .1 .1 .1 .1 .1 .0 ≡ climbToLeaves (lent z (start o .args .rows) (start o .args .lambda) (start o .args .delta)) (o .loop .l + 1))
 reached c =
     let i = turn c in
     (omega (arith, i .loop-test .taken), c .go-on .ensures .1 (now (start (i .before) .args .rows)) (i .before .loop .inv .1))
@@ -102,7 +101,7 @@ count-level-requires-2 c κs =
     let s = start o in
     let a = s .args in
     let z = a .sizes in
-    climbed-explicit (z .n .0) (z .darts) (z .h .0) (now (a .rows)) (now (a .lambda)) (now (a .delta)) (now (a .table)) (s .pre) (o .loop .l + 1) (reached g .0) _ (reached g .1)
+    (climbed-explicit (lent z (a .rows) (a .lambda) (a .delta)) (now (a .table)) (s .pre) (o .loop .l + 1) (reached g .0) _ (reached g .1), s .pre .dimension .0)
 
 with-row-requires-2 : tie.Need-with-row-requires-2 Inv-loop μ-loop
 with-row-requires-2 c κs =
@@ -125,18 +124,16 @@ loop-again c =
     let a = s .args in
     let z = a .sizes in
     let l = o .loop in
-    let rows = now (a .rows) in
-    let lambda = now (a .lambda) in
-    let delta = now (a .delta) in
+    let P = lent z (a .rows) (a .lambda) (a .delta) in
     let is = reached g in
     let counted = c .before .count-level2 in
-    let e = climbed-table (z .n .0) (z .darts) (z .h .0) rows lambda delta (now (a .table)) (s .pre) (l .l + 1) (is .0) _ (is .1) in
+    let e = climbed-table P (now (a .table)) (s .pre) (l .l + 1) (is .0) _ (is .1) in
     let row = subst (λ (t : List ℕ). LevelCounted (z .n .0) (z .darts) t (counted .result)) e (counted .ensures) in
-    let more = counted-row (z .n .0) (z .darts) (z .h .0) rows lambda delta (now (a .table)) (s .pre) (l .counts) (l .l + 1) (is .0) (l .inv .2) (counted .result) row in
-    let passes = climb-passes (z .n .0) (z .darts) (z .h .0) rows lambda delta (now (a .table)) (s .pre) (l .l + 1) (is .0) in (
+    let more = counted-row P (now (a .table)) (s .pre) (l .counts) (l .l + 1) (is .0) (l .inv .2) (counted .result) row in
+    let passes = climb-passes P (now (a .table)) (s .pre) (l .l + 1) (is .0) in (
       omega (arith, turn g .loop-test .taken),
       climb-reached (l .inv .1) (is .0) (sym passes) (is .1),
-      subst (λ (t : List (List ℕ)). Counted (z .n .0) (z .darts) (z .h .0) rows lambda delta t (l .l + 1 + 1)) (sym (c .with-row2 .ensures)) more,
+      subst (λ (t : List (List ℕ)). Counted P t (l .l + 1 + 1)) (sym (c .with-row2 .ensures)) more,
     )
 
 same-length : tie.Need-same-length Inv-loop μ-loop
@@ -146,16 +143,17 @@ same-length c =
     let a = s .args in
     let z = a .sizes in
     let climbed = o .loop .inv .1 in
-    ap (λ (t : List ℕ). length t) (climbed .holds) ∙ table-accepted (z .n .0) (z .darts) (z .h .0) (now (a .rows)) (now (a .lambda)) (now (a .delta)) (now (a .table)) (s .pre) (o .loop .l) (climbed .low) .table-length ∙ sym (s .pre .table-length)
+    ap (λ (t : List ℕ). length t) (climbed .holds) ∙ table-accepted (lent z (a .rows) (a .lambda) (a .delta)) (now (a .table)) (s .pre) (o .loop .l) (climbed .low) .table-length ∙ sym (s .pre .table-length)
 
 returns : tie.Need-returns Inv-loop μ-loop
 returns c =
     let o = c .before in
     let a = start o .args in
     let z = a .sizes in
+    let P = lent z (a .rows) (a .lambda) (a .delta) in
     let l = o .loop in
     let e : l .l ≡ z .h .0 = omega arith in
-    (subst (λ (k : ℕ). Counted (z .n .0) (z .darts) (z .h .0) (now (a .rows)) (now (a .lambda)) (now (a .delta)) (l .counts) (k + 1)) e (l .inv .2), l .inv .1 .holds ∙ ap (tableAt (ofParts (z .n .0) (z .darts) (z .h .0) (now (a .rows)) (now (a .lambda)) (now (a .delta)))) e)
+    (subst (λ (k : ℕ). Counted P (l .counts) (k + 1)) e (l .inv .2), l .inv .1 .holds ∙ ap (tableAt P) e)
 
 pub count-levels-spec : {M : Type 1} → statement M
 count-levels-spec =

@@ -32,7 +32,7 @@ turn c =
     let s = start (c .before) in
     let a = s .args in
     let l = c .before .loop in
-    after-turn (a .search .n .0) (a .search .darts) (now (a .table)) (chosen (now (a .choices))) (a .search .dart) (now (a .reached)) (now (a .queue)) (a .search .tail) (s .pre .0) (s .pre .1) (l .head) (state (l .reached) (l .queue) (l .tail)) (is (c .before)) (l .inv .0) (l .inv .1) (c .loop-test .taken)
+    after-turn (a .search .n .0) (a .search .darts) (now (a .table)) (chosen (now (a .choices))) (a .search .dart) (now (a .reached)) (now (a .queue)) (a .search .tail) (s .pre .0) (s .pre .1 .0) (l .head) (state (l .reached) (l .queue) (l .tail)) (is (c .before)) (l .inv .0) (l .inv .1) (c .loop-test .taken)
 
 -- the head is the number of a place of the queue, and a dart stands there
 place : (c : tie.In-loop Inv-loop μ-loop) → let a = start (c .before) .args in let l = c .before .loop in (l .head < a .search .darts) × (getD (l .queue) (l .head) 0 < a .search .darts) × (a .search .darts ≤ 4096)
@@ -43,7 +43,7 @@ push-requires c κs =
     let s = c .before .before .before .before in
     let a = s .args in
     let p = s .pre .0 in
-    let z = s .pre .1 in
+    let z = s .pre .1 .0 in
     (omega (arith, p .first, p .rows .darts), λ h. omega (arith, p .rows .darts, room-left (now (a .reached)) (a .search .tail) (a .search .dart) (a .search .darts) (z .few) (omega (arith, p .first, p .rows .darts, z .room .reached-long)) (p .first) h))
 
 loop-holds : tie.Need-loop-holds Inv-loop μ-loop
@@ -69,7 +69,7 @@ push-neighbours-requires : tie.Need-push-neighbours-requires Inv-loop μ-loop
 push-neighbours-requires c κs =
     let i = c .before .before .before .before in
     let t = turn i in
-    record { rows = start (i .before) .pre .0 .rows; dart = t .dart; inside = t .inside; stored = t .stored }
+    record { two-rows = start (i .before) .pre .1 .1; rows = start (i .before) .pre .0 .rows; dart = t .dart; inside = t .inside; stored = t .stored }
 
 add-head : tie.Need-add-head Inv-loop μ-loop
 add-head c = omega (arith, place (c .before .before .before .before .before))
@@ -91,7 +91,7 @@ returns c =
     let s = start (c .before) in
     let a = s .args in
     let l = c .before .loop in
-    after-found (a .search .n .0) (a .search .darts) (now (a .table)) (chosen (now (a .choices))) (a .search .dart) (now (a .reached)) (now (a .queue)) (a .search .tail) (s .pre .0) (s .pre .1) (l .head) (state (l .reached) (l .queue) (l .tail)) (is (c .before)) (l .inv .0) (l .inv .1) (omega arith)
+    after-found (a .search .n .0) (a .search .darts) (now (a .table)) (chosen (now (a .choices))) (a .search .dart) (now (a .reached)) (now (a .queue)) (a .search .tail) (s .pre .0) (s .pre .1 .0) (l .head) (state (l .reached) (l .queue) (l .tail)) (is (c .before)) (l .inv .0) (l .inv .1) (omega arith)
 
 pub orbit-spec : {M : Type 1} → statement M
 orbit-spec =

@@ -37,7 +37,7 @@ orbit-requires c κs =
     let l = inner .before .loop in
     let s = inner .before .before .before .before in
     let a = s .args in
-    (naming-ready (a .n .0) (a .darts) (now (a .rows)) (now (a .choices)) (has (l .reached)) (l .names) (l .start) (l .inv .1) (s .pre .0) (inner .loop-test .taken), queue-empty (l .inv .2))
+    (naming-ready (a .n .0) (a .darts) (now (a .rows)) (now (a .choices)) (has (l .reached)) (l .names) (l .start) (l .inv .1) (s .pre .0) (inner .loop-test .taken), (queue-empty (l .inv .2), s .pre .2))
 
 give-requires : tie.Need-give-requires Inv-loop μ-loop
 give-requires c κs =

@@ -35,7 +35,7 @@ fine : (c : tie.After-enum-told) → let a = start (checked c) .args in accepted
 fine c = told (checked c .check .ensures .0) (c .enum-told .given .1)
 
 accepted-at : (c : tie.After-enum-told) → let a = start (checked c) .args in Accepted (lent (a .at .sizes) (a .rows) (a .lambda) (a .delta)) (now (a .table))
-accepted-at c = let a = start (checked c) .args in accepts _ _ _ _ _ _ _ (a .at .level .0) (now (a .names)) (fits (checked c)) (fine c)
+accepted-at c = let a = start (checked c) .args in accepts _ _ (a .at .level .0) (now (a .names)) (fits (checked c)) (fine c)
 
 -- the search for a contracted dart, and the check before it
 abbrev searched : tie.After-enum-told2 → tie.After-contracted
@@ -52,7 +52,7 @@ returns : tie.Need-returns
 returns c =
     let a = c .before .before .before .before .before .before .before .before .before .args in
     let measured = c .before .before .row-fits in
-    let x = not-long (a .at .sizes .n .0) (a .at .sizes .darts) (a .at .sizes .h .0) (now (a .rows)) (now (a .lambda)) (now (a .delta)) (now (a .table)) (a .at .level .0) (now (a .names)) (sym (measured .ensures) ∙ not-true (measured .result) (c .before .if1 .taken)) in
+    let x = not-long (lent (a .at .sizes) (a .rows) (a .lambda) (a .delta)) (now (a .table)) (a .at .level .0) (now (a .names)) (sym (measured .ensures) ∙ not-true (measured .result) (c .before .if1 .taken)) in
     (c .lent .ensures ∙ x .0, (x .1, x .2))
 
 returns-2 : tie.Need-returns-2
@@ -60,14 +60,14 @@ returns-2 c =
     let k = c .before .before .before .before .before in
     let a = start k .args in
     let r = c .before .r .given in
-    let x = check-refused _ _ _ _ _ _ _ (a .at .level .0) (now (a .names)) (fits k) (r .0 .0) (told (k .check .ensures .0) (r .1)) in
+    let x = check-refused _ _ (a .at .level .0) (now (a .names)) (fits k) (r .0 .0) (told (k .check .ensures .0) (r .1)) in
     (x .0, (k .check .ensures .1 ∙ x .1, x .2))
 
 returns-3 : tie.Need-returns-3
 returns-3 c =
     let e = c .before .before .before .before in
     let a = start (checked e) .args in
-    let x = too-high _ _ _ _ _ _ _ (a .at .level .0) (now (a .names)) (fits (checked e)) (fine e) (c .if2 .taken) in
+    let x = too-high _ _ (a .at .level .0) (now (a .names)) (fits (checked e)) (fine e) (c .if2 .taken) in
     (x .0, (checked e .check .ensures .1 ∙ x .1, x .2))
 
 contracted-requires : tie.Need-contracted-requires
@@ -79,7 +79,7 @@ returns-4 c =
     let e = early s in
     let a = start (checked e) .args in
     let r = c .before .r2 .given in
-    let x = shrunk _ _ _ _ _ _ _ (a .at .level .0) (now (a .names)) (fits (checked e)) (fine e) (s .before .if2 .left) (r .0 .0) (told (s .contracted .ensures) (r .1)) in
+    let x = shrunk _ _ (a .at .level .0) (now (a .names)) (fits (checked e)) (fine e) (s .before .if2 .left) (r .0 .0) (told (s .contracted .ensures) (r .1)) in
     (x .0, (checked e .check .ensures .1 ∙ x .1, x .2))
 
 region-choices-requires : tie.Need-region-choices-requires
@@ -93,7 +93,7 @@ name-orbits-requires c κs =
     let s = searched t in
     let e = early s in
     let a = start (checked e) .args in
-    (leads _ _ _ _ _ _ _ (a .at .level .0) (now (a .names)) (fits (checked e)) (fine e) (s .before .if2 .left) (plain t) _ (rw (accepted-at e .lambda-length) at (c .before .before .region-choices .ensures)), eqb-true (length (now (a .names))) (a .at .sizes .darts) (fits (checked e)))
+    (leads _ _ (a .at .level .0) (now (a .names)) (fits (checked e)) (fine e) (s .before .if2 .left) (plain t) _ (rw (accepted-at e .lambda-length) at (c .before .before .region-choices .ensures)), eqb-true (length (now (a .names))) (a .at .sizes .darts) (fits (checked e)), accepted-at e .dimension .0)
 
 returns-5 : tie.Need-returns-5
 returns-5 c =
@@ -101,7 +101,7 @@ returns-5 c =
     let s = searched t in
     let e = early s in
     let a = start (checked e) .args in
-    let x = all-named _ _ _ _ _ _ _ (a .at .level .0) (now (a .names)) (fits (checked e)) (fine e) (s .before .if2 .left) (plain t) (c .before .before .before .before .before .region-choices .result) (rw (accepted-at e .lambda-length) at (c .before .before .before .before .before .region-choices .ensures)) _ (c .before .before .name-orbits .ensures) in
+    let x = all-named _ _ (a .at .level .0) (now (a .names)) (fits (checked e)) (fine e) (s .before .if2 .left) (plain t) (c .before .before .before .before .before .region-choices .result) (rw (accepted-at e .lambda-length) at (c .before .before .before .before .before .region-choices .ensures)) _ (c .before .before .name-orbits .ensures) in
     (x .0, (checked e .check .ensures .1 ∙ x .1, x .2))
 
 pub name-regions-spec : {M : Type 1} → statement M

@@ -7,7 +7,7 @@ use Rattle.maps.specs.Folded.{Folded}
 use Rattle.answers.specs.Lent.{lentOf}
 use Rattle.answers.specs.Pyramid.{lent}
 use Rattle.answers.proofs.Refusals.{told}
-use Rattle.unfolding.specs.Stacked.{stackLent}
+use Rattle.stacking.specs.Stacked.{stackLent}
 use Rattle.unfolding.proofs.Whole.{toldSizes, job-lengths, told-lengths, job-refused, job-levels, job-accepted}
 use Rattle.unfolding.proofs.unfold_all.Statement.{statement}
 use Rattle.unfolding.proofs.unfold_all.Tie as tie

@@ -1,6 +1,6 @@
 -- `zg_add` meets its contract: the job does, and its answer is flattened. Assumes nothing.
 use mathlib.Core.Path.{ap₂, _∙_}
-use Rattle.zompelgors.specs.Flat.{heightFor}
+use Rattle.interface.specs.Flat.{heightFor}
 use borrow.Author.Needs.{needs}
 use Rattle.zompelgors.proofs.zg_add.Statement.{statement}
 use Rattle.zompelgors.proofs.zg_add.Tie as tie

@@ -1,6 +1,6 @@
 -- `zg_decimation` meets its contract: the job does, and its answer is flattened. Assumes nothing.
 use mathlib.Core.Path.{ap, _∙_}
-use Rattle.zompelgors.specs.Flat.{factorFor}
+use Rattle.interface.specs.Flat.{factorFor}
 use borrow.Author.Needs.{needs}
 use Rattle.zompelgors.proofs.zg_decimation.Statement.{statement}
 use Rattle.zompelgors.proofs.zg_decimation.Tie as tie

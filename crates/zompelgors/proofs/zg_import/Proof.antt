@@ -1,6 +1,6 @@
 -- `zg_import` meets its contract: the job does, and its answer is flattened. Assumes nothing.
 use mathlib.Core.Path.{ap, _∙_}
-use Rattle.zompelgors.specs.Flat.{refusalFor}
+use Rattle.interface.specs.Flat.{refusalFor}
 use borrow.Author.Needs.{needs}
 use Rattle.zompelgors.proofs.zg_import.Statement.{statement}
 use Rattle.zompelgors.proofs.zg_import.Tie as tie

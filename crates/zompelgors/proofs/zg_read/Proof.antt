@@ -1,6 +1,6 @@
 -- `zg_read` meets its contract: the job does, and its answer is flattened. Assumes nothing.
 use mathlib.Core.Path.{ap₂, _∙_}
-use Rattle.zompelgors.specs.Flat.{linkFor}
+use Rattle.interface.specs.Flat.{linkFor}
 use borrow.Author.Needs.{needs}
 use Rattle.zompelgors.proofs.zg_read.Statement.{statement}
 use Rattle.zompelgors.proofs.zg_read.Tie as tie

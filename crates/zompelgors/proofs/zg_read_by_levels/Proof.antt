@@ -1,6 +1,6 @@
 -- `zg_read_by_levels` meets its contract: the job does, and its answer is flattened. Assumes nothing.
 use mathlib.Core.Path.{ap, _∙_}
-use Rattle.zompelgors.specs.Flat.{readingFor}
+use Rattle.interface.specs.Flat.{readingFor}
 use borrow.Author.Needs.{needs}
 use Rattle.zompelgors.proofs.zg_read_by_levels.Statement.{statement}
 use Rattle.zompelgors.proofs.zg_read_by_levels.Tie as tie

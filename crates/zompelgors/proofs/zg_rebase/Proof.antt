@@ -1,6 +1,6 @@
 -- `zg_rebase` meets its contract: the job does, and its answer is flattened. Assumes nothing.
 use mathlib.Core.Path.{ap, _∙_}
-use Rattle.zompelgors.specs.Flat.{baseFor}
+use Rattle.interface.specs.Flat.{baseFor}
 use borrow.Author.Needs.{needs}
 use Rattle.zompelgors.proofs.zg_rebase.Statement.{statement}
 use Rattle.zompelgors.proofs.zg_rebase.Tie as tie

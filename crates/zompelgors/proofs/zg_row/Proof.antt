@@ -1,7 +1,7 @@
 -- `zg_row` meets its contract: the job does, and its answer is flattened. Assumes nothing.
 use mathlib.Core.Path.{sym, ap, _∙_}
 use denote.Ref.{now}
-use Rattle.zompelgors.specs.Flat.{partFor}
+use Rattle.interface.specs.Flat.{partFor}
 use Rattle.zompelgors.proofs.Accepted.{row-start}
 use borrow.Author.Needs.{needs}
 use Rattle.zompelgors.proofs.zg_row.Statement.{statement}

@@ -1,6 +1,6 @@
 -- `zg_survivors` meets its contract: the job does, and its answer is flattened. Assumes nothing.
 use mathlib.Core.Path.{ap₂, _∙_}
-use Rattle.zompelgors.specs.Flat.{countFor}
+use Rattle.interface.specs.Flat.{countFor}
 use borrow.Author.Needs.{needs}
 use Rattle.zompelgors.proofs.zg_survivors.Statement.{statement}
 use Rattle.zompelgors.proofs.zg_survivors.Tie as tie

@@ -1,6 +1,6 @@
 -- `zg_take` meets its contract: the job does, and its answer is flattened. Assumes nothing.
 use mathlib.Core.Path.{ap, _∙_}
-use Rattle.zompelgors.specs.Flat.{recordFor}
+use Rattle.interface.specs.Flat.{recordFor}
 use borrow.Author.Needs.{needs}
 use Rattle.zompelgors.proofs.zg_take.Statement.{statement}
 use Rattle.zompelgors.proofs.zg_take.Tie as tie

@@ -1,6 +1,6 @@
 -- `zg_unfold` meets its contract: the job does, and its answer is flattened. Assumes nothing.
 use mathlib.Core.Path.{_∙_}
-use Rattle.zompelgors.specs.Flat.{unfoldingFor}
+use Rattle.interface.specs.Flat.{unfoldingFor}
 use borrow.Author.Needs.{needs}
 use Rattle.zompelgors.proofs.zg_unfold.Statement.{statement}
 use Rattle.zompelgors.proofs.zg_unfold.Tie as tie

@@ -1,6 +1,6 @@
 -- `zg_write` meets its contract: the job does, and its answer is flattened. Assumes nothing.
 use mathlib.Core.Path.{ap, _∙_}
-use Rattle.zompelgors.specs.Flat.{writtenFor}
+use Rattle.interface.specs.Flat.{writtenFor}
 use borrow.Author.Needs.{needs}
 use Rattle.zompelgors.proofs.zg_write.Statement.{statement}
 use Rattle.zompelgors.proofs.zg_write.Tie as tie

@@ -37,7 +37,7 @@ loop-holds : tie.Need-loop-holds Inv-loop μ-loop
 loop-holds c =
     let s = c .before .before in
     let a = s .args in
-    (zero-le, gathered-none (a .n .0) (a .darts) (now (a .table)) (λ j. true) (starts (a .darts) (now (a .table)) (now (a .reached))) (has (now (a .pieces))) (s .pre .1), s .pre .2)
+    (zero-le, gathered-none (a .n .0) (a .darts) (now (a .table)) (λ j. true) (starts (a .darts) (now (a .table)) (now (a .reached))) (has (now (a .pieces))) (s .pre .2), s .pre .3)
 
 cast-place : tie.Need-cast-place Inv-loop μ-loop
 cast-place c = search needs
@@ -68,7 +68,7 @@ orbit-requires c κs =
     let there = test .before .before .before .there in
     let t = and-both (there .result && has (now (a .reached)) (l .d)) (not (has (l .pieces) (l .d))) (test .if1 .taken) in
     let p = and-both (there .result) (has (now (a .reached)) (l .d)) (t .0) in
-    (level-ready (a .n .0) (a .darts) (now (a .table)) (s .pre .0) (loop .before .every-row .result) (λ j. true) (loop .before .every-row .ensures) (l .d) (l .pieces) (l .queue) (inner .loop-test .taken, sym (there .ensures) ∙ p .0) (l .inv .2) (l .inv .1 .closed), queue-empty (l .inv .2))
+    (level-ready (a .n .0) (a .darts) (now (a .table)) (s .pre .0) (loop .before .every-row .result) (λ j. true) (loop .before .every-row .ensures) (l .d) (l .pieces) (l .queue) (inner .loop-test .taken, sym (there .ensures) ∙ p .0) (l .inv .2) (l .inv .1 .closed), (queue-empty (l .inv .2), s .pre .1))
 
 add-d : tie.Need-add-d Inv-loop μ-loop
 add-d c = search needs

@@ -70,7 +70,7 @@ orbit-requires c κs =
     let s = start o in
     let a = s .args in
     let l = o .loop in
-    (level-ready (a .n .0) (a .darts) (now (a .table)) (s .pre .0) (o .before .before .all-but-two .result) (besides (a .dimension .0)) (o .before .before .all-but-two .ensures) (l .d) (l .parts) (l .queue) (told t .0) (l .inv .3) (l .inv .1 .parts-closed), queue-empty (l .inv .3))
+    (level-ready (a .n .0) (a .darts) (now (a .table)) (s .pre .0) (o .before .before .all-but-two .result) (besides (a .dimension .0)) (o .before .before .all-but-two .ensures) (l .d) (l .parts) (l .queue) (told t .0) (l .inv .3) (l .inv .1 .parts-closed), (queue-empty (l .inv .3), omega (arith, s .pre .1)))
 
 add-t24 : tie.Need-add-t24 Inv-loop μ-loop
 add-t24 c = search needs
@@ -101,7 +101,7 @@ orbit-requires-2 c κs =
     let l = o .loop in
     let queue = searched .last .1 .1 .1 .1 .0 in
     let room : Room (l .reached) queue = record { reached-long = l .inv .2 .reached-long; queue-long = searched .ensures .stored .room .queue-long } in
-    (level-ready (a .n .0) (a .darts) (now (a .table)) (s .pre .0) (o .before .all-but .result) (but (a .dimension .0)) (o .before .all-but .ensures) (l .d) (l .reached) queue (told t .0) room (l .inv .1 .cells-closed), queue-empty room)
+    (level-ready (a .n .0) (a .darts) (now (a .table)) (s .pre .0) (o .before .all-but .result) (but (a .dimension .0)) (o .before .all-but .ensures) (l .d) (l .reached) queue (told t .0) room (l .inv .1 .cells-closed), (queue-empty room, omega (arith, s .pre .1)))
 
 add-d : tie.Need-add-d Inv-loop μ-loop
 add-d c = search needs

@@ -61,7 +61,7 @@ told t =
 break-pieces-requires : tie.Need-break-pieces-requires Inv-loop μ-loop
 break-pieces-requires c κs =
     let s = c .before .before .before .before in
-    (s .pre .0, none-has 4096, record { reached-long = length-replicate 4096 false; queue-long = s .pre .2 .room .queue-long })
+    (s .pre .0, omega (arith, s .pre .1), none-has 4096, record { reached-long = length-replicate 4096 false; queue-long = s .pre .2 .room .queue-long })
 
 all-but-requires : tie.Need-all-but-requires Inv-loop μ-loop
 all-but-requires c κs = let p = start c .pre in omega (arith, p .0 .rows .dimension)
@@ -96,7 +96,7 @@ orbit-requires c κs =
     let s = start (broken o) in
     let a = s .args in
     let l = o .loop in
-    (level-ready (a .n .0) (a .darts) (now (a .table)) (s .pre .0) (o .before .before .all-but .result) (but (a .dimension .0)) (o .before .before .all-but .ensures) (l .d) (l .reached) (l .queue) (told t .0) (l .inv .2) (sparing o .cells-closed), queue-empty (l .inv .2))
+    (level-ready (a .n .0) (a .darts) (now (a .table)) (s .pre .0) (o .before .before .all-but .result) (but (a .dimension .0)) (o .before .before .all-but .ensures) (l .d) (l .reached) (l .queue) (told t .0) (l .inv .2) (sparing o .cells-closed), (queue-empty (l .inv .2), omega (arith, s .pre .1)))
 
 orbit-requires-2 : tie.Need-orbit-requires-2 Inv-loop μ-loop
 orbit-requires-2 c κs =
@@ -108,7 +108,7 @@ orbit-requires-2 c κs =
     let l = o .loop in
     let queue = searched .last .1 .1 .1 .1 .0 in
     let room : Room (l .pieces) queue = record { reached-long = l .inv .3 .reached-long; queue-long = searched .ensures .stored .room .queue-long } in
-    (level-ready (a .n .0) (a .darts) (now (a .table)) (s .pre .0) (o .before .every-row .result) (λ j. true) (o .before .every-row .ensures) (l .d) (l .pieces) queue (told t .0) room (sparing o .closed), queue-empty room)
+    (level-ready (a .n .0) (a .darts) (now (a .table)) (s .pre .0) (o .before .every-row .result) (λ j. true) (o .before .every-row .ensures) (l .d) (l .pieces) queue (told t .0) room (sparing o .closed), (queue-empty room, omega (arith, s .pre .1)))
 
 add-d : tie.Need-add-d Inv-loop μ-loop
 add-d c = search needs

@@ -51,7 +51,7 @@ orbit-requires c κs =
     let l = loop .loop in
     let failed = sym (test .before .fails .ensures) ∙ test .if2 .taken in
     let there = fails-tells (a .n .0) (a .darts) (now (a .table)) (a .dimension .0) (l .d) failed .1 in
-    (level-ready (a .n .0) (a .darts) (now (a .table)) (s .pre .0) (loop .before .all-but .result) (but (a .dimension .0)) (loop .before .all-but .ensures) (l .d) (l .reached) (l .queue) (inner .loop-test .taken, there) (l .inv .2) (l .inv .1 .closed), queue-empty (l .inv .2))
+    (level-ready (a .n .0) (a .darts) (now (a .table)) (s .pre .0) (loop .before .all-but .result) (but (a .dimension .0)) (loop .before .all-but .ensures) (l .d) (l .reached) (l .queue) (inner .loop-test .taken, there) (l .inv .2) (l .inv .1 .closed), (queue-empty (l .inv .2), omega (arith, s .pre .1)))
 
 add-d : tie.Need-add-d Inv-loop μ-loop
 add-d c = search needs

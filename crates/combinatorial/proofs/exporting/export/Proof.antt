@@ -1,86 +1,45 @@
--- `combinatorial::exporting::export` meets its contract: all is tested before an entry is written. Assumes nothing.
-use mathlib.Core.Path.{_≡_, refl, sym}
+-- `combinatorial::exporting::export` meets its contract: the pattern tells what the tests would, and they are made where it is not found. Assumes nothing.
 use Prim.Native.Nat.{_/_}
+use lib.ListN.{length}
 use denote.Ref.{now}
-use Rattle.maps.specs.Verdict.{accepted}
-use Rattle.maps.specs.Partner.{exportLent}
-use Rattle.answers.specs.Numbers.{verdictOf}
-use Rattle.answers.proofs.Refusals.{told}
-use Rattle.combinatorial.proofs.Shapes.{denies, affirms, Base, export-base, export-refused, shape-yields, yields-shape}
 use borrow.Author.Needs.{needs}
+use borrow.Author.Tests.{not-false}
+use Rattle.combinatorial.specs.Back.{Pattern}
+use Rattle.combinatorial.proofs.Patterns.{pattern-rows, pattern-yields, pattern-passes}
 use Rattle.combinatorial.proofs.exporting.export.Statement.{statement}
 use Rattle.combinatorial.proofs.exporting.export.Tie as tie
 
 -- where the job begins
-abbrev start : tie.After-base-refused → tie.Start
-start c = c .before .before .before .before
+abbrev start : tie.Else1 → tie.Start
+start c = c .before .before .before .before .before
 
-says : (c : tie.After-base-refused) → let a = start c .args in verdictOf (c .base-refused .result) ≡ exportLent (a .n .0) (a .darts) (now (a .rows)) (now (a .edges)) (now (a .vertices))
-unfolding exportLent
-says c = c .base-refused .ensures
+pattern : (c : tie.Else1) → let a = start c .args in Pattern (a .n .0) (a .darts) (now (a .rows)) (length (now (a .edges))) (length (now (a .vertices)))
+pattern c = c .before .yielded .ensures (not-false (c .before .yielded .result) (c .if1 .left))
 
--- past all tests
-passed : (c : tie.After-enum-told) → let a = start (c .before .before) .args in accepted ≡ exportLent (a .n .0) (a .darts) (now (a .rows)) (now (a .edges)) (now (a .vertices))
-passed c = told (says (c .before .before)) (c .enum-told .given .1)
-
-base : (c : tie.After-enum-told) → let a = start (c .before .before) .args in Base (a .darts) (now (a .rows)) (now (a .edges)) (now (a .vertices))
-base c = let a = start (c .before .before) .args in export-base (a .n .0) _ _ _ _ (sym (passed c))
-
-base-refused-requires : tie.Need-base-refused-requires
-base-refused-requires c κs = search needs
-
-enum-known-r : tie.Need-enum-known-r
-enum-known-r c = search needs
-
-returns : tie.Need-returns
-returns c =
-    let l = c .before .before .before in
-    let a = start l .args in
-    export-refused (now (a .rows)) (now (a .edges)) (now (a .vertices)) _ (c .before .r .given .0 .0) (told (says l) (c .before .r .given .1))
-
-enum-told : tie.Need-enum-told
-enum-told c = search needs
-
-alternates-requires : tie.Need-alternates-requires
-alternates-requires c κs = base c .rows-fit
+take-rows-requires : tie.Need-take-rows-requires
+take-rows-requires c κs =
+    let p = pattern (c .before .before) in
+    (pattern-rows _ _ _ _ _ p, p .fit .edges-length, p .fit .vertices-length)
 
 returns-2 : tie.Need-returns-2
 returns-2 c =
-    let t = c .before .before in
-    let a = start (t .before .before) .args in
-    let unlike = denies (c .before .alternates .result) (c .if1 .taken) (c .before .alternates .ensures) in
-    rw (← (passed t)) (refl, (λ M edges vertices y. unlike (yields-shape (a .darts) M (now (a .rows)) edges vertices (base t .rows-fit .exact) y)), refl, refl)
-
-take-rows-requires : tie.Need-take-rows-requires
-take-rows-requires c κs = let b = base (c .before .before .before .before) in (b .rows-fit, b .edges-length, b .vertices-length)
-
-same-length : tie.Need-same-length
-same-length c = search needs
-
-same-length-2 : tie.Need-same-length-2
-same-length-2 c = search needs
-
-returns-3 : tie.Need-returns-3
-returns-3 c =
     let k = c .before .before .before .before in
-    let shaped = k .before .before .before in
-    let t = shaped .before .before in
-    let a = start (t .before .before) .args in
-    let b = base t in
-    let shape = affirms (shaped .before .alternates .result) (shaped .if1 .left) (shaped .before .alternates .ensures) in
-    rw (← (passed t), k .take-rows .ensures .0, k .take-rows .ensures .1) (a .darts / 2, shape-yields (a .darts) (now (a .rows)) (b .one-dart) (b .rows-fit) (b .valid) shape)
+    let t = k .before .before .before in
+    let a = start t .args in
+    let p = pattern t in
+    rw (pattern-passes (a .n .0) (a .darts) (now (a .rows)) (now (a .edges)) (now (a .vertices)) p, k .take-rows .ensures .0, k .take-rows .ensures .1)
+    (a .darts / 2, pattern-yields (a .n .0) (a .darts) (now (a .rows)) (length (now (a .edges))) (length (now (a .vertices))) p)
 
 pub export-spec : {M : Type 1} → statement M
 export-spec =
     tie.close
     (tie.spec
-    base-refused-requires
-    enum-known-r
-    returns
-    enum-told
-    alternates-requires
-    returns-2
+    (λ c κs. search needs)
+    (λ c κs. search needs)
+    (λ c. search needs)
+    (λ c. search needs)
+    (λ c. search needs)
     take-rows-requires
-    same-length
-    same-length-2
-    returns-3)
+    (λ c. search needs)
+    (λ c. search needs)
+    returns-2)

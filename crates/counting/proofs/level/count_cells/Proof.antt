@@ -71,7 +71,7 @@ orbit-requires c κs =
     let s = start o in
     let a = s .args in
     let l = o .loop in
-    (level-ready (a .n .0) (a .darts) (now (a .table)) (s .pre .0) (o .before .all-but .result) (but (a .dimension .0)) (o .before .all-but .ensures) (l .d) (l .reached) (l .queue) (told t .0) (l .inv .3) (counting o .closed), queue-empty (l .inv .3))
+    (level-ready (a .n .0) (a .darts) (now (a .table)) (s .pre .0) (o .before .all-but .result) (but (a .dimension .0)) (o .before .all-but .ensures) (l .d) (l .reached) (l .queue) (told t .0) (l .inv .3) (counting o .closed), (queue-empty (l .inv .3), s .pre .1))
 
 add-number : tie.Need-add-number Inv-loop μ-loop
 add-number c =

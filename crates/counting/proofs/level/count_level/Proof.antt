@@ -23,13 +23,13 @@ abbrev μ-loop : tie.MeasureT-loop
 μ-loop n darts table row₀ i₀ i-end row i = i-end - i
 
 add-i-end : tie.Need-add-i-end Inv-loop μ-loop
-add-i-end c = let p = c .before .before .pre .rows .dimension in omega arith
+add-i-end c = let p = c .before .before .pre .0 .rows .dimension in omega arith
 
 loop-holds : tie.Need-loop-holds Inv-loop μ-loop
 loop-holds c = (zero-le, length-replicate 5 zero, λ x l. absurd (omega arith), λ x l f. getD-replicate 5 x zero zero f)
 
 count-cells-requires : tie.Need-count-cells-requires Inv-loop μ-loop
-count-cells-requires c κs = let s = c .before .before .before .before in (s .pre, omega arith)
+count-cells-requires c κs = let s = c .before .before .before .before in (s .pre .0, s .pre .1, omega arith)
 
 cast-row : tie.Need-cast-row Inv-loop μ-loop
 cast-row c = search needs
@@ -38,10 +38,10 @@ mul-row : tie.Need-mul-row Inv-loop μ-loop
 mul-row c = search needs
 
 array-write-row : tie.Need-array-write-row Inv-loop μ-loop
-array-write-row c = let p = c .before .before .before .before .before .pre .rows .dimension in omega arith
+array-write-row c = let p = c .before .before .before .before .before .pre .0 .rows .dimension in omega arith
 
 add-i : tie.Need-add-i Inv-loop μ-loop
-add-i c = let p = c .before .before .before .before .before .pre .rows .dimension in omega arith
+add-i c = let p = c .before .before .before .before .before .pre .0 .rows .dimension in omega arith
 
 loop-less : tie.Need-loop-less Inv-loop μ-loop
 loop-less c = search needs
@@ -52,7 +52,7 @@ loop-again c =
     let a = s .args in
     let l = c .before .before .loop in
     let number = c .count-cells .result in
-    let p = s .pre .rows .dimension in (
+    let p = s .pre .0 .rows .dimension in (
       omega arith,
       length-set (l .row) (l .i) number ∙ l .inv .1,
       row-more (λ x m. CellCount (entry (a .darts) (now (a .table))) (a .n .0) (a .darts) (present (a .darts) (now (a .table))) x m) (l .row) (l .i) number (omega (arith, l .inv .1)) (l .inv .2) (c .count-cells .ensures),

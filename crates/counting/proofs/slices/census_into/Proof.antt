@@ -39,17 +39,19 @@ returns : tie.Need-returns
 returns c =
     let b = c .before .before in
     let a = start b .args in
+    let P = lent (a .sizes) (a .rows) (a .lambda) (a .delta) in
     let other : censusFits (now (a .cells)) (now (a .sums)) ≡ false = sym (b .both .ensures) ∙ not-true (b .both .result) (c .before .if1 .taken) in
-    (c .lent .ensures ∙ other-lengths (a .sizes .n .0) (a .sizes .darts) (a .sizes .h .0) (now (a .rows)) (now (a .lambda)) (now (a .delta)) (now (a .table)) (now (a .cells)) (now (a .sums)) other, (other-table (a .sizes .n .0) (a .sizes .darts) (a .sizes .h .0) (now (a .rows)) (now (a .lambda)) (now (a .delta)) (now (a .table)) (now (a .cells)) (now (a .sums)) other, other-left (a .sizes .n .0) (a .sizes .darts) (a .sizes .h .0) (now (a .rows)) (now (a .lambda)) (now (a .delta)) (now (a .table)) (now (a .cells)) (now (a .sums)) other))
+    (c .lent .ensures ∙ other-lengths P (now (a .table)) (now (a .cells)) (now (a .sums)) other, (other-table P (now (a .table)) (now (a .cells)) (now (a .sums)) other, other-left P (now (a .table)) (now (a .cells)) (now (a .sums)) other))
 
 returns-2 : tie.Need-returns-2
 returns-2 c =
     let k = c .before .before .before .before .before in
     let e = going-on k in
     let a = start (e .before) .args in
+    let P = lent (a .sizes) (a .rows) (a .lambda) (a .delta) in
     let r = c .before .r .given in
     let v = told (k .census .ensures .0) (r .1) in
-    (v ∙ same-verdict (a .sizes .n .0) (a .sizes .darts) (a .sizes .h .0) (now (a .rows)) (now (a .lambda)) (now (a .delta)) (now (a .table)) (now (a .cells)) (now (a .sums)) (same e), (k .census .ensures .1 .0 ∙ same-table (a .sizes .n .0) (a .sizes .darts) (a .sizes .h .0) (now (a .rows)) (now (a .lambda)) (now (a .delta)) (now (a .table)) (now (a .cells)) (now (a .sums)) (same e), same-refused (a .sizes .n .0) (a .sizes .darts) (a .sizes .h .0) (now (a .rows)) (now (a .lambda)) (now (a .delta)) (now (a .table)) (now (a .cells)) (now (a .sums)) (same e) (r .0 .0) v))
+    (v ∙ same-verdict P (now (a .table)) (now (a .cells)) (now (a .sums)) (same e), (k .census .ensures .1 .0 ∙ same-table P (now (a .table)) (now (a .cells)) (now (a .sums)) (same e), same-refused P (now (a .table)) (now (a .cells)) (now (a .sums)) (same e) (r .0 .0) v))
 
 put-cells-requires : tie.Need-put-cells-requires
 put-cells-requires c κs =
@@ -63,7 +65,7 @@ put-sums-requires c κs =
     let k = answered told-at in
     let e = going-on k in
     let a = start (e .before) .args in
-    (all-fit (a .sizes .n .0) (a .sizes .darts) (a .sizes .h .0) (now (a .rows)) (now (a .lambda)) (now (a .delta)) (now (a .table)) (now (a .cells)) (now (a .sums)) (fine told-at) _ _ _ _ (k .census .ensures .1 .1), eqb-true (length (now (a .sums))) 33 (and-both (eqb (length (now (a .cells))) 165) (eqb (length (now (a .sums))) 33) (same e) .1))
+    (all-fit (lent (a .sizes) (a .rows) (a .lambda) (a .delta)) (now (a .table)) (now (a .cells)) (now (a .sums)) (fine told-at) _ _ _ _ (k .census .ensures .1 .1), eqb-true (length (now (a .sums))) 33 (and-both (eqb (length (now (a .cells))) 165) (eqb (length (now (a .sums))) 33) (same e) .1))
 
 returns-3 : tie.Need-returns-3
 returns-3 c =
@@ -72,7 +74,8 @@ returns-3 c =
     let k = answered told-at in
     let e = going-on k in
     let a = start (e .before) .args in
-    (fine told-at ∙ same-verdict (a .sizes .n .0) (a .sizes .darts) (a .sizes .h .0) (now (a .rows)) (now (a .lambda)) (now (a .delta)) (now (a .table)) (now (a .cells)) (now (a .sums)) (same e), (k .census .ensures .1 .0 ∙ same-table (a .sizes .n .0) (a .sizes .darts) (a .sizes .h .0) (now (a .rows)) (now (a .lambda)) (now (a .delta)) (now (a .table)) (now (a .cells)) (now (a .sums)) (same e), put-left (a .sizes .n .0) (a .sizes .darts) (a .sizes .h .0) (now (a .rows)) (now (a .lambda)) (now (a .delta)) (now (a .table)) (now (a .cells)) (now (a .sums)) (fine told-at) _ _ _ _ (k .census .ensures .1 .1) (same e) _ _ (put .put-cells .ensures) (c .before .put-sums .ensures)))
+    let P = lent (a .sizes) (a .rows) (a .lambda) (a .delta) in
+    (fine told-at ∙ same-verdict P (now (a .table)) (now (a .cells)) (now (a .sums)) (same e), (k .census .ensures .1 .0 ∙ same-table P (now (a .table)) (now (a .cells)) (now (a .sums)) (same e), put-left P (now (a .table)) (now (a .cells)) (now (a .sums)) (fine told-at) _ _ _ _ (k .census .ensures .1 .1) (same e) _ _ (put .put-cells .ensures) (c .before .put-sums .ensures)))
 
 pub census-into-spec : {M : Type 1} → statement M
 census-into-spec =

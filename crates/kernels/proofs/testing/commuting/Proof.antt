@@ -1,11 +1,12 @@
 -- `kernels::testing::commuting` meets its contract. Assumes nothing.
-use Prim.Native.Nat.{_+_, _*_, _≤_, _<_}
+use Prim.Native.Nat.{ℕ, _+_, _*_, _≤_, _<_}
 use native.Mathlib.Omega.{arith}
 use lib.ListN.{length}
 use denote.Ref.{now}
 use Rattle.maps.specs.Table.{entry}
 use Rattle.laws.proofs.Marks.{mark-byte, mark-rows, beyond-row}
-use Rattle.kernels.proofs.Places.{place, row-inside}
+use Rattle.kernels.specs.Ready.{Place}
+use Rattle.kernels.proofs.Places.{place}
 use Rattle.kernels.proofs.testing.commuting.Statement.{statement}
 use Rattle.kernels.proofs.testing.commuting.Tie as tie
 
@@ -26,29 +27,29 @@ near c = let s = start (c .before) in omega (arith, c .before .before .between .
 far : (c : tie.After-beyond) → c .beyond .result .0 ≤ start (c .before) .args .n .0
 far c = let s = start (c .before) in rw (c .beyond .ensures) (beyond-row (s .args .n .0) (s .args .mark .0) (s .pre .0 .1) (s .pre .0 .3) .0)
 
-cast-commute : tie.Need-cast-commute
-cast-commute c = omega (arith, start (c .before) .pre .0 .0 .darts)
+-- in either row every dart has its place
+at-near : (c : tie.After-beyond) → (x : ℕ) → x < start (c .before) .args .darts → Place (start (c .before) .args .darts) (now (start (c .before) .args .table)) (c .before .before .between .result .1 .0) x
+at-near c x l = place (start (c .before) .pre .0 .0) _ x (near c) l
 
-cast-commute-2 : tie.Need-cast-commute-2
-cast-commute-2 c = let p = start (c .before) .pre .0 in omega (arith, p .0 .darts, p .2)
+at-far : (c : tie.After-beyond) → (x : ℕ) → x < start (c .before) .args .darts → Place (start (c .before) .args .darts) (now (start (c .before) .args .table)) (c .beyond .result .0) x
+at-far c x l = place (start (c .before) .pre .0 .0) _ x (far c) l
 
-commute-requires : tie.Need-commute-requires
-commute-requires c κs =
-    let s = start (c .before) in
-    let p = s .pre .0 in
-    record {
-      row-i = row-inside (p .0) _ (near c);
-      row-j = row-inside (p .0) _ (far c);
-      small = place (p .0) _ _ (near c) (p .2) .small;
-      dart = p .2;
-      by-i = s .pre .1 _ (near c);
-      by-j = s .pre .1 _ (far c);
-    }
+at-requires : tie.Need-at-requires
+at-requires c κs = at-near c _ (start (c .before) .pre .0 .2)
+
+at-requires-2 : tie.Need-at-requires-2
+at-requires-2 c κs = at-far (c .before) _ (start (c .before .before) .pre .0 .2)
+
+at-requires-3 : tie.Need-at-requires-3
+at-requires-3 c κs = let b = c .before .before in at-far b _ (rw (c .before .at .ensures) (start (b .before) .pre .1 _ (near b)))
+
+at-requires-4 : tie.Need-at-requires-4
+at-requires-4 c κs = let b = c .before .before .before in at-near b _ (rw (c .before .at2 .ensures) (start (b .before) .pre .1 _ (far b)))
 
 returns : tie.Need-returns
-returns c = let b = c .before in rw (start (b .before) .pre .0 .3, c .commute .ensures, b .before .before .between .ensures .1, b .beyond .ensures)
+returns c = let b = c .before .before .before .before in rw (start (b .before) .pre .0 .3, c .at4 .ensures, c .before .at3 .ensures, c .before .before .at2 .ensures, c .before .before .before .at .ensures, b .before .before .between .ensures .1, b .beyond .ensures)
 
 pub commuting-spec : {M : Type 1} → statement M
 commuting-spec =
     tie.close
-    (tie.spec between-requires beyond-requires cast-commute cast-commute-2 commute-requires returns)
+    (tie.spec between-requires beyond-requires at-requires at-requires-2 at-requires-3 at-requires-4 returns)

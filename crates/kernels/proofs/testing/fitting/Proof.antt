@@ -11,13 +11,14 @@ use Rattle.maps.specs.Table.{each}
 use Rattle.maps.specs.Check.{check10}
 use Rattle.answers.specs.declared.Mark.{Mark}
 use Rattle.kernels.specs.Strings.{kernelRow}
-use Rattle.kernels.proofs.Tests.{Walk, walk-start, walk-all, walk-marked, walk-inside, walk-rooms, walk-further, ten, ten-free, ten-passed, ten-refused}
+use Rattle.kernels.specs.Walked.{Walk, ten}
+use Rattle.kernels.proofs.Tests.{walk-start, walk-all, walk-marked, walk-inside, walk-rooms, walk-further, ten-free, ten-passed, ten-refused}
 use Rattle.kernels.proofs.testing.fitting.Statement.{statement}
 use Rattle.kernels.proofs.testing.fitting.Tie as tie
 
 abbrev Inv-loop : tie.InvT-loop
 Inv-loop lambda delta next table n darts l mark₀ tested₀ d₀ mark tested d =
-    Walk (n .0) darts (l .0) d₀ lambda delta next table (ten (n .0) darts (l .0) (kernelRow lambda delta (l .0)) table) d × (tested ≡ hasBeyond (n .0) (mark .0))
+    Walk (n .0) darts (l .0) lambda delta next table (ten (n .0) darts (l .0) (kernelRow lambda delta (l .0)) table) d × (tested ≡ hasBeyond (n .0) (mark .0))
 
 abbrev μ-loop : tie.MeasureT-loop
 μ-loop lambda delta next table n darts l mark₀ tested₀ d₀ mark tested d = darts - d

@@ -10,8 +10,9 @@ use Rattle.maps.specs.Check.{at9, check9}
 use Rattle.answers.specs.Numbers.{verdictOf}
 use Rattle.answers.specs.declared.Check.the-variants.{Accepted}
 use Rattle.kernels.specs.Strings.{kernelRow}
+use Rattle.kernels.specs.Walked.{Walk, nine}
 use Rattle.kernels.proofs.Places.{place}
-use Rattle.kernels.proofs.Tests.{Walk, walk-start, walk-all, walk-marked, walk-inside, walk-rooms, walk-further, nine, nine-free, nine-stays, nine-passed, nine-leaves}
+use Rattle.kernels.proofs.Tests.{walk-start, walk-all, walk-marked, walk-inside, walk-rooms, walk-further, nine-free, nine-stays, nine-passed, nine-leaves}
 use Rattle.kernels.proofs.testing.whole.Statement.{statement}
 use Rattle.kernels.proofs.testing.whole.Tie as tie
 
@@ -22,7 +23,7 @@ abbrev μ-loop : tie.MeasureT-loop
 μ-loop kernel lambda delta next table n darts l found₀ d marked j₀ j-end found j = j-end - j
 
 abbrev Inv-darts : tie.InvT-darts
-Inv-darts kernel lambda delta next table n darts l found₀ d₀ found d = Walk (n .0) darts (l .0) d₀ lambda delta next table (nine (n .0) darts (l .0) (kernelRow lambda delta (l .0)) table) d × (found ≡ Accepted)
+Inv-darts kernel lambda delta next table n darts l found₀ d₀ found d = Walk (n .0) darts (l .0) lambda delta next table (nine (n .0) darts (l .0) (kernelRow lambda delta (l .0)) table) d × (found ≡ Accepted)
 
 abbrev μ-darts : tie.MeasureT-darts
 μ-darts kernel lambda delta next table n darts l found₀ d₀ found d = darts - d
@@ -61,7 +62,7 @@ leaving-requires c κs =
     let ld = i .darts-test .taken in
     let lj : c .before .loop .j ≤ start i .args .kernel .n .0 = omega arith in
     let le = walk-inside w ld (c .before .loop .j) lj in
-    ((place (w .tested .shape) (c .before .loop .j) (i .before .darts .d) lj ld, walk-marked w ld (c .before .before .before .delta-at .ensures) .1), (omega (arith, w .strung .marks .lambda-long), omega (arith, w .strung .marks .delta-long)))
+    ((place (w .tested .shape) (c .before .loop .j) (i .before .darts .d) lj ld, walk-marked w ld (c .before .before .before .delta-at .ensures) .1), (omega (arith, w .marks .lambda-long), omega (arith, w .marks .delta-long)))
 
 cast-t20 : tie.Need-cast-t20 Inv-loop μ-loop Inv-darts μ-darts
 cast-t20 c = omega (arith, dart (c .before .before .before) .before .darts .inv .0 .tested .shape .darts)

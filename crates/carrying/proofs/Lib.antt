@@ -1,0 +1,3 @@
+pub mod Local
+pub mod Leading
+pub mod Summing

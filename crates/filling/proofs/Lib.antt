@@ -1,0 +1,2 @@
+mod Gone
+pub mod Filled

@@ -1,0 +1,77 @@
+-- `regions::none_contracted` meets its contract. The invariant: where none was found, no dart before is contracted; the measure is the darts that are left. Assumes nothing.
+use mathlib.Core.Path.{_≡_, refl, sym, _∙_}
+use mathlib.Core.Bool.{Bool, true, false, _||_, true≢false}
+use Prim.Native.Nat.{_-_, _≤_, zero-le}
+use native.Mathlib.Omega.{arith}
+use denote.Ref.{now}
+use borrow.Author.Needs.{needs}
+use borrow.Author.Tests.{not-true}
+use Rattle.maps.specs.Verdict.{accepted, scan}
+use Rattle.maps.specs.Mark.{contracts}
+use Rattle.maps.specs.Table.{each}
+use Rattle.maps.specs.Regions.{at23}
+use Rattle.laws.proofs.Verdicts.{scan-more}
+use Rattle.regions.proofs.none_contracted.Statement.{statement}
+use Rattle.regions.proofs.none_contracted.Tie as tie
+
+abbrev Inv-loop : tie.InvT-loop
+Inv-loop darts delta any₀ d₀ any d = (d ≤ darts) × (any ≡ false → scan d (at23 (each delta)) ≡ accepted)
+
+abbrev μ-loop : tie.MeasureT-loop
+μ-loop darts delta any₀ d₀ any d = darts - d
+
+loop-holds : tie.Need-loop-holds Inv-loop μ-loop
+unfolding scan
+loop-holds c = (zero-le, λ e. refl)
+
+cast-at : tie.Need-cast-at Inv-loop μ-loop
+cast-at c = search needs
+
+delta-at-requires : tie.Need-delta-at-requires Inv-loop μ-loop
+delta-at-requires c κs = search needs
+
+contracts-requires : tie.Need-contracts-requires Inv-loop μ-loop
+contracts-requires c κs = search needs
+
+-- whether the dart is contracted
+contracts-is : (c : tie.After-contracts Inv-loop μ-loop) → let l = c .before .before .before .loop in contracts (each (now (c .before .before .before .before .before .args .delta)) (l .d)) ≡ c .contracts .result
+contracts-is c = rw (c .before .delta-at .ensures) at (sym (c .contracts .ensures))
+
+add-d : tie.Need-add-d Inv-loop μ-loop
+add-d c = search needs
+
+loop-less : tie.Need-loop-less Inv-loop μ-loop
+loop-less c = search needs
+
+neither : (x y : Bool) → (x || y) ≡ false → (x ≡ false) × (y ≡ false)
+neither true y e = absurd (true≢false e)
+neither false y e = (refl, e)
+
+loop-again : tie.Need-loop-again Inv-loop μ-loop
+loop-again c =
+    let inner = c .before .before in
+    let l = inner .before .loop in
+    let a = inner .before .before .before .args in
+    (omega arith, λ e. let o = neither (l .any) (c .contracts .result) e in scan-more (at23 (each (now (a .delta)))) (l .d) (l .inv .1 (o .0)) (rw (contracts-is c ∙ o .1)))
+
+returns : tie.Need-returns Inv-loop μ-loop
+returns c =
+    let a = c .before .before .before .args in
+    let l = c .before .loop in
+    let e : l .d ≡ a .darts = omega arith in
+    λ f. rw e at (l .inv .1 (not-true (l .any) f))
+
+pub none-contracted-spec : {M : Type 1} → statement M
+none-contracted-spec =
+    tie.close
+    (tie.spec
+    Inv-loop
+    μ-loop
+    loop-holds
+    cast-at
+    delta-at-requires
+    contracts-requires
+    add-d
+    loop-less
+    loop-again
+    returns)

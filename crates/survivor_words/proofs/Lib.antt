@@ -1,0 +1,5 @@
+mod Accepted
+mod Lanes
+mod Ones
+pub mod Promises
+mod Turned
