@@ -1,5 +1,5 @@
 -- How a walk goes on at a dart that it met, and number 8 over all darts. Assumes nothing: these are definitions.
-use Rattle.std.specs.Prelude.{◌≡◌, true, false, ◌&&◌, List, [], ℕ}
+use Rattle.std.specs.Prelude.{◌≡◌, true, false, ◌&&◌, List, ℕ}
 use Rattle.maps.specs.Table.{each}
 use Rattle.maps.specs.Verdict.{Verdict, ◌then◌, scan}
 use Rattle.maps.specs.Sizes.{number4, has_length}

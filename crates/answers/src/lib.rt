@@ -1,4 +1,6 @@
 // What all jobs share: levels, dimensions and marks, each way to be refused, and its numbers. Assumes nothing.
+#![tactic(auto)]
+
 mod limits; // limits.rt: the numbers that the document names
 mod marks; // marks.rt: what a mark lets a walk do, and number 8
 mod tables; // tables.rt: an entry of a table, Λ and Δ of a dart
@@ -19,30 +21,30 @@ pub use tables::{at, commute, delta_at, in_kernel, is_gone, lambda_at, survivors
 pub use tests::{asked, both, entries, in_range, lent, pyramid_fits, row_fits, rows_fit};
 
 // A level: Λ, h, or a level asked.
-#[derive(Drop)]
+#[derive(Clone, Copy)]
 pub struct Level(pub u8);
 
 // A dimension: n, an involution, or the dimension of a cell.
-#[derive(Drop)]
+#[derive(Clone, Copy)]
 pub struct Dim(pub u8);
 
 // A mark: Δ, or a byte of a mark row.
-#[derive(Drop)]
+#[derive(Clone, Copy)]
 pub struct Mark(pub u8);
 
 // The two rows between which a mark lets a walk pass; the first is its dimension.
-#[derive(Drop)]
+#[derive(Clone, Copy)]
 pub struct Passage(pub Dim, pub Dim);
 
 // How a walk goes on at a dart that it met: by a row, or nowhere.
-#[derive(Drop)]
+#[derive(Clone, Copy)]
 pub enum Onward {
     By(Dim),
     Nowhere,
 }
 
 // n, h and N of the pyramid lent.
-#[derive(Drop)]
+#[derive(Clone, Copy)]
 pub struct Sizes {
     pub n: Dim,
     pub h: Level,
@@ -50,14 +52,14 @@ pub struct Sizes {
 }
 
 // The same, with the level that a job is asked.
-#[derive(Drop)]
+#[derive(Clone, Copy)]
 pub struct AtLevel {
     pub sizes: Sizes,
     pub level: Level,
 }
 
 // What a reading is asked: a level, an involution and a dart; 0 where a job is asked less.
-#[derive(Drop)]
+#[derive(Clone, Copy)]
 pub struct Question {
     pub level: Level,
     pub involution: Dim,
@@ -65,7 +67,7 @@ pub struct Question {
 }
 
 // Each way to be refused. specs/Numbers gives the document's number and values for each.
-#[derive(Drop)]
+#[derive(Clone, Copy)]
 pub enum Refusal {
     Dimension,
     Darts,
@@ -93,14 +95,14 @@ pub enum Refusal {
 }
 
 // The answer of a check.
-#[derive(Drop)]
+#[derive(Clone, Copy)]
 pub enum Check {
     Accepted,
     Refused(Refusal),
 }
 
 // A refusal as the document prints it; all four are 0 where accepted.
-#[derive(Drop)]
+#[derive(Clone, Copy)]
 pub struct Numbers {
     pub number: u16,
     pub level: u16,

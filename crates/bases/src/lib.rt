@@ -1,4 +1,5 @@
 // Check a base, or an explicit level: numbers 1, 2, 4, 5, 6 and 7, with the first place that is refused. Assumes nothing.
+#![tactic(auto)]
 ghost use Rattle.std.specs.Prelude.{◌≡◌, true, false, ℕ, ◌+◌, ◌<◌, ◌≤◌, length, get_or};
 ghost use Rattle.maps.specs.Verdict.{accepted};
 ghost use Rattle.maps.specs.Table.{entry};
@@ -12,14 +13,14 @@ ghost use Rattle.bases.specs.Valid.{Led, ValidAt, Kept, AllLed, AllValid, AllKep
 use answers::{ABSENT, Check, Dim, Level, Refusal, Sizes};
 
 // "The first place found is the one reported": its row and dart.
-#[derive(Drop)]
+#[derive(Clone, Copy)]
 enum Place {
     Nowhere,
     At(Dim, u16),
 }
 
 // What is sought over rows, then darts: number 5, or number 6.
-#[derive(Drop)]
+#[derive(Clone, Copy)]
 enum Test {
     Strays,
     NotTwice,

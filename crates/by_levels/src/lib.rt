@@ -1,4 +1,5 @@
 // Read one neighbour by levels: each step of a walk over a level is again a reading one level lower, down to the base. Assumes nothing.
+#![tactic(auto)]
 ghost use Rattle.std.specs.Prelude.{◌≡◌, ◌&&◌, ◌<◌, length, eqb};
 ghost use Rattle.maps.specs.Table.{each};
 ghost use Rattle.maps.specs.Read.{reading_of, read_lent_by_levels};
@@ -9,21 +10,21 @@ ghost use Rattle.by_levels.specs.Ends.{walked_of, Asked, Reads, Passable, Second
 use answers::{Check, Dim, Level, Onward, Question, Refusal, Sizes};
 
 // A neighbour, and the number of base entries read on the way to it.
-#[derive(Drop)]
+#[derive(Clone, Copy)]
 pub struct Neighbour {
     pub dart: u16,
     pub count: u32,
 }
 
 // A neighbour, or a refusal.
-#[derive(Drop)]
+#[derive(Clone, Copy)]
 pub enum Answered {
     Found(Neighbour),
     Refused(Refusal),
 }
 
 // A row of a dart, and the number of base entries read so far: the row to read next, or the row read last where the dart was met.
-#[derive(Drop)]
+#[derive(Clone, Copy)]
 struct Place {
     row: Dim,
     dart: u16,
@@ -31,7 +32,7 @@ struct Place {
 }
 
 // What stops a walk: 15, 5, 8 or 14.
-#[derive(Drop)]
+#[derive(Clone, Copy)]
 enum Stop {
     TooLong,
     Strays,
@@ -40,7 +41,7 @@ enum Stop {
 }
 
 // How a reading ends.
-#[derive(Drop)]
+#[derive(Clone, Copy)]
 enum End {
     At(Place),
     Stopped(Stop, Place),

@@ -1,4 +1,5 @@
 // A number for each link of a level, carried along where a kernel is taken out: the counts, and the levels since which. The block of the level stands as it is.
+#![tactic(auto)]
 ghost use Rattle.std.specs.Prelude.{◌≡◌, ◌&&◌, ◌+◌, ◌*◌, ◌<◌, ◌≤◌, length, set, eqb};
 ghost use Rattle.maps.specs.Mark.{between as between_of};
 ghost use Rattle.maps.specs.Table.{entry, each};
@@ -60,7 +61,7 @@ fn put(darts: usize, i: Dim, d: usize, entry: u16, table: &mut [u16])
 }
 
 // Where a way starts: a dart of the kernel, and the first row of its mark.
-#[derive(Drop)]
+#[derive(Clone, Copy)]
 struct Start {
     row: Dim,
     dart: usize,

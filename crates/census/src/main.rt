@@ -1,5 +1,6 @@
 // Takes a record from standard input and prints its census: for each level its number, its cells of each dimension, and their alternating sum.
 // It keeps 156,110 bytes: the input (65,536), rows and a table (40,960 each), Λ and Δ (4,096 each), counts (330) and sums (132). Assumes the contracts of read and write.
+#![tactic(auto)]
 ghost use Rattle.std.specs.Prelude.{◌≡◌, ◌≤◌, nat_abs};
 
 use answers::{Check, Dim, LEVELS, Level, MOST_ENTRIES, MOST_ROWS, ROOM, Sizes};

@@ -74,7 +74,7 @@ pub fn check(sizes: Sizes, rows: &[u16], lambda: &[u8], delta: &[u8], table: &mu
 }
 
 // The height once kernels are added or joined, or why it stays.
-#[derive(Drop)]
+#[derive(Clone, Copy)]
 pub enum Height {
     Now(Level),
     Refused(Refusal),

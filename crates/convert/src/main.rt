@@ -1,5 +1,6 @@
 // Takes an old record from standard input and writes the new one, of the same pyramid, to standard output. A refused record writes nothing there; its line goes to the error stream.
 // It keeps 204,828 bytes: the input (65,536), the new record (49,180), rows and a table (40,960 each), Λ and Δ (4,096 each). Assumes the contracts of read and write.
+#![tactic(auto)]
 ghost use Rattle.std.specs.Prelude.{◌≤◌, length};
 
 use answers::{MOST_BYTES, MOST_ENTRIES, ROOM};

@@ -1,4 +1,5 @@
 // How fast a pyramid shrinks: the factor between the survivors of a level and those of the next. Assumes nothing.
+#![tactic(auto)]
 ghost use Rattle.std.specs.Prelude.{◌≡◌};
 ghost use Rattle.maps.specs.Decimation.{decimation_table};
 ghost use Rattle.answers.specs.Pyramid.{lent};
@@ -7,7 +8,7 @@ ghost use Rattle.decimation.specs.Answers.{factor_of, factor_between, decimating
 use answers::{Check, Dim, Level, Refusal, Sizes};
 
 // The answer: by which factor the survivors become fewer, that the next level has no dart, or why there is none.
-#[derive(Drop)]
+#[derive(Clone, Copy)]
 pub enum Factor {
     By(f64),
     Empty,

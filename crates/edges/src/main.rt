@@ -1,5 +1,6 @@
 // Runs the examples of the scope document that are not proved, the unchecked reading and the edges, and prints each answer on a line.
 // Assumes the contract of write.
+#![tactic(auto)]
 ghost use Rattle.std.specs.Prelude.{◌<◌};
 
 use answers::{Check, Dim, Level, Question, Refusal, Sizes};

@@ -116,8 +116,8 @@ module _ (P : Folded) (table : List ℕ) where
         record {
           before = record { dimension = (z.one_dimension, z.dimension); darts = (z.one_dart, z.darts); height = z.height; rows_length = t.0; lambda_length = u.0; delta_length = w.0; table_length = eqb-true (length table) (suc n * N) x.1; pyramid = y };
           room = omega (arith, z.height);
-          row-length = x.0;
-          mark-row = record {
+          row_length = x.0;
+          mark_row = record {
             top = λ d ld q. eqb-true (Λ d) h (rw q at (not-false (cond (is_mark n (mark d)) (eqb (Λ d) h) (eqb (mark d) stay)) (allows d ld)));
             rest = λ d ld q. eqb-true (mark d) stay (rw q at (not-false (cond (is_mark n (mark d)) (eqb (Λ d) h) (eqb (mark d) stay)) (allows d ld)));
           };
@@ -176,7 +176,7 @@ module _ (P : Folded) (table : List ℕ) (e : check_lent P table ≡ accepted) (
       addable_accepted P table' row (record {
         before = record { dimension = p.dimension; darts = p.darts; height = p.height; rows_length = p.rows_length; lambda_length = p.lambda_length; delta_length = p.delta_length; table_length = as_long; pyramid = y };
         room = room;
-        row-length = long;
-        mark-row = record { top = λ d ld q. omega (arith, on d ld q, low d ld); rest = rest };
+        row_length = long;
+        mark_row = record { top = λ d ld q. omega (arith, on d ld q, low d ld); rest = rest };
         kernel = kernel_sound (level (entry N rows) n N (marks h (each lambda) (each delta)) h) n N (each row) h (On N (each lambda) h) (level_valid (entry N rows) n N h (each lambda) (each delta) y h (omega arith)) (λ d o. o.0) (sym kernel ∙ passed);
       })

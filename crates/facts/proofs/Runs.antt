@@ -129,6 +129,7 @@ module _ (a : ℕ → ℕ → ℕ) (dim via : ℕ → ℕ) (removed : ℕ → Bo
 
   pub place_of : (N p t d u e x : ℕ) → Reaches p t d u e → Mem x (places N p t d) → Place N t d x
   unfolding places
+  place_of N zero t d u e x h m = elim m [ ]
   place_of N (suc p) t d u e x h (inl k) =
       record { step = 0; row = t; dart = a t d; at = (refl, refl); is_removed = h.0; passable = h.1; is = k }
   place_of N (suc p) t d u e x h (inr m) =

@@ -1,4 +1,5 @@
 // The walks of a level into a table, over rows, then darts, left at the first refusal. Assumes nothing.
+#![tactic(auto)]
 ghost use Rattle.std.specs.Prelude.{◌≡◌, suc, ◌*◌, max, length};
 ghost use Rattle.answers.specs.Pyramid.{lent};
 ghost use Rattle.reading.specs.Walks.{Allowed, Meets};
@@ -18,7 +19,7 @@ fn larger(one: usize, other: usize) -> usize
 }
 
 // Where and why the walks of a level stop: 15, 5 or 14, with row and dart.
-#[derive(Drop)]
+#[derive(Clone, Copy)]
 pub enum Stop {
     Nowhere,
     Long(Dim, u16),
@@ -27,7 +28,7 @@ pub enum Stop {
 }
 
 // How a walk that met a dart not on the level goes on.
-#[derive(Drop)]
+#[derive(Clone, Copy)]
 enum Rest {
     Ended(Link),
     Stopped(Stop),
@@ -84,7 +85,7 @@ fn onward(
 }
 
 // What became of the walks of a level, their count, and since which level their links stand.
-#[derive(Drop)]
+#[derive(Clone, Copy)]
 pub struct Walks {
     pub stop: Stop,
     pub total: u32,

@@ -1,4 +1,5 @@
 // What the C interface answers: a struct for each kind of answer, made of the job's own. Assumes nothing.
+#![tactic(auto)]
 ghost use Rattle.std.specs.Prelude.{◌≡◌, ◌*◌, ◌≤◌, cond, eqb};
 ghost use Rattle.maps.specs.Verdict.{accepted};
 ghost use Rattle.answers.specs.Numbers.{refusal_of, verdict_of};
@@ -17,7 +18,7 @@ use answers::{Check, Dim, Level, Refusal, Sizes};
 
 // The document's number and values; all 0 where accepted.
 #[repr(C)]
-#[derive(Drop)]
+#[derive(Clone, Copy)]
 pub struct ZgRefusal {
     pub number: u16,
     pub level: u16,
@@ -27,7 +28,7 @@ pub struct ZgRefusal {
 
 // A neighbour with the count of base entries read.
 #[repr(C)]
-#[derive(Drop)]
+#[derive(Clone, Copy)]
 pub struct ZgReading {
     pub refusal: ZgRefusal,
     pub count: u32,
@@ -36,7 +37,7 @@ pub struct ZgReading {
 
 // A neighbour with the count of base entries read, and since which level the link stands.
 #[repr(C)]
-#[derive(Drop)]
+#[derive(Clone, Copy)]
 pub struct ZgLink {
     pub refusal: ZgRefusal,
     pub count: u32,
@@ -46,7 +47,7 @@ pub struct ZgLink {
 
 // The total count of an unfolding, and since which level all its links stand.
 #[repr(C)]
-#[derive(Drop)]
+#[derive(Clone, Copy)]
 pub struct ZgUnfolding {
     pub refusal: ZgRefusal,
     pub count: u32,
@@ -55,7 +56,7 @@ pub struct ZgUnfolding {
 
 // The survivor count.
 #[repr(C)]
-#[derive(Drop)]
+#[derive(Clone, Copy)]
 pub struct ZgCount {
     pub refusal: ZgRefusal,
     pub count: u32,
@@ -63,7 +64,7 @@ pub struct ZgCount {
 
 // The height after a level is added or two kernels are joined; as given in a refusal.
 #[repr(C)]
-#[derive(Drop)]
+#[derive(Clone, Copy)]
 pub struct ZgHeight {
     pub refusal: ZgRefusal,
     pub height: u8,
@@ -71,7 +72,7 @@ pub struct ZgHeight {
 
 // Where a row lies: a part of the base rows (unfolded 0) or of the unfolded level (unfolded 1).
 #[repr(C)]
-#[derive(Drop)]
+#[derive(Clone, Copy)]
 pub struct ZgPart {
     pub refusal: ZgRefusal,
     pub unfolded: u8,
@@ -81,7 +82,7 @@ pub struct ZgPart {
 
 // n, h and N of a record that is taken.
 #[repr(C)]
-#[derive(Drop)]
+#[derive(Clone, Copy)]
 pub struct ZgRecord {
     pub refusal: ZgRefusal,
     pub n: u8,
@@ -91,7 +92,7 @@ pub struct ZgRecord {
 
 // The length in bytes of a record that is written.
 #[repr(C)]
-#[derive(Drop)]
+#[derive(Clone, Copy)]
 pub struct ZgWritten {
     pub refusal: ZgRefusal,
     pub length: u32,
@@ -99,7 +100,7 @@ pub struct ZgWritten {
 
 // By which factor the survivors become fewer, or that the next level has no dart (empty 1, factor 0).
 #[repr(C)]
-#[derive(Drop)]
+#[derive(Clone, Copy)]
 pub struct ZgFactor {
     pub refusal: ZgRefusal,
     pub empty: u8,
@@ -108,7 +109,7 @@ pub struct ZgFactor {
 
 // The darts and the height of a new base; as given in a refusal.
 #[repr(C)]
-#[derive(Drop)]
+#[derive(Clone, Copy)]
 pub struct ZgBase {
     pub refusal: ZgRefusal,
     pub darts: u16,

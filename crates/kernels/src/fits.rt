@@ -15,7 +15,7 @@ use super::testing::commuting;
 use answers::{Dim, Level, Mark, ROOM};
 
 // A dart of a kernel, and its mark there.
-#[derive(Drop)]
+#[derive(Clone, Copy)]
 struct Start {
     level: Level,
     mark: Mark,
@@ -115,7 +115,7 @@ fn whole_alike(
 }
 
 // Darts of one mark, strung from one on to below another.
-#[derive(Drop)]
+#[derive(Clone, Copy)]
 struct Stretch {
     mark: Mark,
     from: usize,

@@ -1,4 +1,5 @@
 // One kernel, tested and removed in place on an explicit level. Each function says what it asks of its caller: the level is a valid map, and the kernel's darts are strung.
+#![tactic(auto)]
 mod fits; // fits.rt: numbers 9 and 10 with a yes or no
 mod removing; // removing.rt: a kernel removed in place
 mod strings; // strings.rt: the darts strung by kernel, and what is read of one
@@ -16,7 +17,7 @@ pub use strings::{HEADS, link};
 pub use testing::{tested, whole};
 
 // A kernel of a map of so many darts and n: the first dart of its string, and its level. The darts are narrow and come first: it is passed in one register then, and N is read with no shift.
-#[derive(Drop)]
+#[derive(Clone, Copy)]
 pub struct Kernel {
     pub darts: u16,
     pub n: Dim,

@@ -29,14 +29,14 @@ fn join(darts: usize, i: Dim, b: usize, e: usize, table: &mut [u16])
 }
 
 // Where following starts: a dart, and the first row of its mark.
-#[derive(Drop)]
+#[derive(Clone, Copy)]
 struct Start {
     row: Dim,
     dart: usize,
 }
 
 // Where following ends, and the turns that it took.
-#[derive(Drop)]
+#[derive(Clone, Copy)]
 struct End {
     dart: usize,
     turns: usize,

@@ -14,7 +14,7 @@ use super::strings::{at, in_kernel, next_of};
 use answers::{Check, Dim, Mark, ROOM, Refusal, STAY};
 
 // A dart of a kernel, and its mark there.
-#[derive(Drop)]
+#[derive(Clone, Copy)]
 pub(crate) struct Marked {
     pub dart: usize,
     pub mark: Mark,

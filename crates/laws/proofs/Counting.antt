@@ -136,6 +136,7 @@ length_gather g (suc m) = omega (arith, length-append (gather g m) (g m), length
 
 pub mem_gather : (g : ℕ → List ℕ) (m x : ℕ) → Mem x (gather g m) → (j : ℕ) × (j < m) × Mem x (g j)
 unfolding gather
+mem_gather g zero x h = elim h [ ]
 mem_gather g (suc m) x h = go (mem_append x (gather g m) (g m) h) (λ k. mem_gather g m x k)
   where
     go : Mem x (gather g m) ⊎ Mem x (g m) → (Mem x (gather g m) → (j : ℕ) × (j < m) × Mem x (g j)) → (j : ℕ) × (j < suc m) × Mem x (g j)

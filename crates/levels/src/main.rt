@@ -1,5 +1,6 @@
 // Takes a record from standard input, unfolds each level and prints: n, N, h; then for each level its number, survivors, total count, and since which level all its links stand.
 // It keeps 156,160 bytes: the input (65,536), rows and a table (40,960 each), Λ and Δ (4,096 each) and survivor words (512). Assumes the contracts of read and write.
+#![tactic(auto)]
 use answers::{AtLevel, Level, MOST_ENTRIES, ROOM, Sizes};
 use one_level::Unfolding;
 use taking::Taken;

@@ -1,4 +1,5 @@
 // Unfold a whole level: the walks of all its darts, into a lent table. Assumes nothing.
+#![tactic(auto)]
 ghost use Rattle.std.specs.Prelude.{◌≡◌, length};
 ghost use Rattle.maps.specs.Verdict.{if_accepted};
 ghost use Rattle.maps.specs.Table.{listed, absent};
@@ -11,14 +12,14 @@ use answers::{ABSENT, Check, Dim, Level, Question, Refusal, Sizes};
 use filling::{Stop, Walks, fill};
 
 // The count of all walks of a level, and since which level all its links stand.
-#[derive(Drop)]
+#[derive(Clone, Copy)]
 pub struct Unfolding {
     pub count: u32,
     pub since: Level,
 }
 
 // What all walks of a level give, or a refusal.
-#[derive(Drop)]
+#[derive(Clone, Copy)]
 pub enum Total {
     Counted(Unfolding),
     Refused(Refusal),

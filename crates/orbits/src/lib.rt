@@ -1,4 +1,5 @@
 // The orbit of a dart, by rows that are chosen for each dart: a search with a queue, in which each dart stands once. Assumes nothing.
+#![tactic(auto)]
 ghost use Rattle.std.specs.Prelude.{◌≡◌, true, false, not, ℕ, ◌≤◌, ◌<◌, eqb};
 ghost use Rattle.maps.specs.Parts.{besides};
 ghost use Rattle.maps.specs.Table.{entry};
@@ -50,7 +51,7 @@ fn push(d: u16, reached: &mut [bool; ROOM], queue: &mut [u16; ROOM], tail: usize
 }
 
 // A search in a map of so many darts and n: the dart that it goes on from, and the queue's end.
-#[derive(Drop)]
+#[derive(Clone, Copy)]
 pub struct Search {
     pub n: Dim,
     pub darts: u16,

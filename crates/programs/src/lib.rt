@@ -1,4 +1,5 @@
 // What the programs share: a number and a refusal printed. Assumes the contract of write; what is printed no contract can say.
+#![tactic(auto)]
 use answers::Refusal;
 
 // A number behind a space.

@@ -1,4 +1,5 @@
 // Read one neighbour by the direct walk. Assumes nothing.
+#![tactic(auto)]
 ghost use Rattle.std.specs.Prelude.{◌≡◌, ◌≤◌, ◌<◌, max};
 ghost use Rattle.maps.specs.Read.{walk_gives, walk_since, read_lent, read_since};
 ghost use Rattle.answers.specs.Pyramid.{lent};
@@ -8,7 +9,7 @@ ghost use Rattle.reading.specs.Answers.{value_of, stands_since};
 use answers::{Check, Level, Onward, Question, Refusal, Sizes};
 
 // A neighbour, the number of base entries read on the way to it, and since which level the link stands.
-#[derive(Drop)]
+#[derive(Clone, Copy)]
 pub struct Link {
     pub dart: u16,
     pub count: u32,
@@ -16,7 +17,7 @@ pub struct Link {
 }
 
 // A link, or a refusal.
-#[derive(Drop)]
+#[derive(Clone, Copy)]
 pub enum Reading {
     Found(Link),
     Refused(Refusal),

@@ -1,4 +1,5 @@
 // Start again from a higher level: it becomes the base, and its survivors are packed to the front of what is lent. Assumes nothing.
+#![tactic(auto)]
 mod reaching; // reaching.rt: the kernels below the level, removed in the rows
 
 ghost use Rattle.std.specs.Prelude.{◌≡◌};
@@ -10,7 +11,7 @@ ghost use Rattle.starting_again.specs.Answers.{rebased_of, rebasing};
 use answers::{AtLevel, Check, Dim, Level, Refusal};
 
 // The answer: the new number of darts and the new height, or why nothing was changed.
-#[derive(Drop)]
+#[derive(Clone, Copy)]
 pub enum Rebased {
     Base(u16, Level),
     Refused(Refusal),

@@ -2,7 +2,7 @@
 use answers::Refusal;
 
 // The survivor count, or a refusal.
-#[derive(Drop)]
+#[derive(Clone, Copy)]
 pub enum Survivors {
     Counted(u32),
     Refused(Refusal),

@@ -1,4 +1,5 @@
 // Take a record: it is unpacked and its pyramid checked, in one job; its rows have two bytes an entry, or, in an old record, one or two. Assumes nothing: any bytes at all are answered.
+#![tactic(auto)]
 mod copying; // copying.rt: a field's body into a lent slice
 mod unpacking; // unpacking.rt: the fields of a record, tested and copied
 
@@ -14,14 +15,14 @@ pub use copying::{copy_bytes, copy_few_bytes};
 use unpacking::unpack;
 
 // The answer: n, h and N, or why the record is refused.
-#[derive(Drop)]
+#[derive(Clone, Copy)]
 pub enum Taken {
     Record(Sizes),
     Refused(Refusal),
 }
 
 // The rows that a reader allows: of two bytes an entry alone, or of either kind, as old records may have them.
-#[derive(Drop)]
+#[derive(Clone, Copy)]
 pub(crate) enum Allowed {
     Wide,
     Either,

@@ -14,7 +14,7 @@ use super::{Allowed, Taken};
 use answers::{Check, Dim, Level, Refusal, Sizes};
 
 // What a tag says; a row's tag says which row.
-#[derive(Drop)]
+#[derive(Clone, Copy)]
 enum Kind {
     Header,
     Wide(Dim),

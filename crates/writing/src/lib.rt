@@ -1,4 +1,5 @@
 // Write the record of an accepted pyramid into a lent buffer. Assumes nothing.
+#![tactic(auto)]
 mod putting; // putting.rt: a record's fields into the buffer
 
 ghost use Rattle.std.specs.Prelude.{◌≡◌, ◌≤◌};
@@ -11,7 +12,7 @@ use answers::{Check, Dim, Refusal, Sizes};
 use putting::{put_header, put_marks, put_rows, wide};
 
 // The answer: the record's length in bytes, or why nothing was written.
-#[derive(Drop)]
+#[derive(Clone, Copy)]
 pub enum Written {
     Bytes(u32),
     Refused(Refusal),

@@ -1,4 +1,5 @@
 // The C interface of the jobs: pointers with lengths, structs by value. Assumes nothing of a caller beyond pointers that are good for the lengths given.
+#![tactic(auto)]
 ghost use Rattle.std.specs.Prelude.{◌≡◌};
 ghost use Rattle.maps.specs.CheckBase.{check_base};
 ghost use Rattle.maps.specs.CheckPyramid.{check_lent, check_leaves};

@@ -1,4 +1,5 @@
 // The C interface of the second library: region names. Assumes nothing of a caller beyond pointers that are good for the lengths given.
+#![tactic(auto)]
 ghost use Rattle.std.specs.Prelude.{◌≡◌};
 ghost use Rattle.maps.specs.Regions.{regions_lent, regions_table};
 ghost use Rattle.answers.specs.Pyramid.{given};
@@ -10,7 +11,7 @@ use answers::{AtLevel, Check, Dim, Level, Sizes};
 
 // The document's number and values; all 0 where accepted. The first library's struct of that name in C.
 #[repr(C)]
-#[derive(Drop)]
+#[derive(Clone, Copy)]
 pub struct ZgRefusal {
     pub number: u16,
     pub level: u16,
