@@ -1,6 +1,5 @@
 -- The folded pyramid that a function is lent. Assumes nothing: these are definitions.
 use Rattle.std.specs.Prelude.{List, ℕ}
-use Rattle.std.specs.Borrow.{Bor}
 use Rattle.maps.specs.Folded.{Folded, of_parts}
 use Rattle.answers.specs.declared.Sizes.{Sizes}
 
@@ -9,9 +8,9 @@ abbrev pub pyramid : Sizes → List ℕ → List ℕ → List ℕ → Folded
 pyramid sizes rows lambda delta = of_parts sizes.n.0 sizes.darts sizes.h.0 rows lambda delta
 
 -- its sizes, and the slices themselves
-abbrev pub lent : Sizes → Bor (List ℕ) → Bor (List ℕ) → Bor (List ℕ) → Folded
-lent sizes rows lambda delta = pyramid sizes rows.now lambda.now delta.now
+abbrev pub lent : Sizes → List ℕ → List ℕ → List ℕ → Folded
+lent sizes rows lambda delta = pyramid sizes rows lambda delta
 
 -- the sizes as bare numbers
-abbrev pub given : ℕ → ℕ → ℕ → Bor (List ℕ) → Bor (List ℕ) → Bor (List ℕ) → Folded
-given n darts h rows lambda delta = of_parts n darts h rows.now lambda.now delta.now
+abbrev pub given : ℕ → ℕ → ℕ → List ℕ → List ℕ → List ℕ → Folded
+given n darts h rows lambda delta = of_parts n darts h rows lambda delta

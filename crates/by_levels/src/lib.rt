@@ -49,8 +49,8 @@ enum End {
 
 // One base entry: 15, 5, and 8 of the dart met.
 fn read_base(sizes: Sizes, rows: &[u16], lambda: &[u8], delta: &[u8], at: Place) -> End
-    requires { Asked (lent sizes rows lambda delta) 0 at }
-    ensures { Reads (lent sizes rows.entry lambda.entry delta.entry) 0 at result }
+    requires { Asked (lent sizes rows.now lambda.now delta.now) 0 at }
+    ensures { Reads (lent sizes rows.now lambda.now delta.now) 0 at result }
 {
     if 1 + 2 * sizes.darts as u32 <= at.count {
         return End::Stopped(Stop::TooLong, at);
@@ -76,8 +76,8 @@ fn read_base(sizes: Sizes, rows: &[u16], lambda: &[u8], delta: &[u8], at: Place)
 // A row of a dart on level l: the base entry, or a walk over the level below.
 #[cycle(reading_walk)]
 fn reading(sizes: Sizes, rows: &[u16], lambda: &[u8], delta: &[u8], l: Level, at: Place) -> End
-    requires { Asked (lent sizes rows lambda delta) l.0 at }
-    ensures { Reads (lent sizes rows.entry lambda.entry delta.entry) l.0 at result }
+    requires { Asked (lent sizes rows.now lambda.now delta.now) l.0 at }
+    ensures { Reads (lent sizes rows.now lambda.now delta.now) l.0 at result }
 {
     if l.0 == 0 {
         return read_base(sizes, rows, lambda, delta, at);
@@ -116,8 +116,8 @@ fn same_kernel(lambda: &[u8], delta: &[u8], l: Level, passed: u16, reached: u16)
 // The walk over the level below l, whose every step is a reading there: it ends at the first dart that is on level l. A dart met that is not is passed by two steps: it must be in the kernel below, met by its mark's first row, and the dart that the second row leads to must be there with the same mark, else 14.
 #[cycle(reading_walk)]
 fn walk(sizes: Sizes, rows: &[u16], lambda: &[u8], delta: &[u8], l: Level, from: Place) -> End
-    requires { Asked (lent sizes rows lambda delta) l.0 from × (0 < l.0) }
-    ensures { Reads (lent sizes rows.entry lambda.entry delta.entry) l.0 from result }
+    requires { Asked (lent sizes rows.now lambda.now delta.now) l.0 from × (0 < l.0) }
+    ensures { Reads (lent sizes rows.now lambda.now delta.now) l.0 from result }
 {
     let below = Level(l.0 - 1);
     let mut step = reading(sizes, rows, lambda, delta, below, from);
@@ -188,7 +188,7 @@ pub fn read_by_levels(
     delta: &[u8],
     asked: Question,
 ) -> Answered
-    ensures { value_of result ≡ read_lent_by_levels (lent sizes rows.entry lambda.entry delta.entry) asked.level.0 asked.involution.0 asked.dart }
+    ensures { value_of result ≡ read_lent_by_levels (lent sizes rows.now lambda.now delta.now) asked.level.0 asked.involution.0 asked.dart }
 {
     if let Check::Refused(r) = questions::question(sizes, rows, lambda, delta, asked) {
         return Answered::Refused(r);

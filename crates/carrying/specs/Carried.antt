@@ -1,6 +1,5 @@
 -- A number for each link, carried along where a kernel is taken out. Assumes nothing: these are definitions.
 use Rattle.std.specs.Prelude.{◌≡◌, Bool, true, cond, ◌&&◌, not, List, ℕ, suc, ◌≤◌, ◌<◌, length, ltb}
-use Rattle.std.specs.Borrow.{Bor}
 use Rattle.maps.specs.Mark.{is_mark}
 use Rattle.maps.specs.Removal.{marked}
 use Rattle.maps.specs.Table.{entry}
@@ -26,23 +25,23 @@ abbrev pub Fits : ℕ → ℕ → (ℕ → ℕ) → List ℕ → List ℕ → Ty
 Fits n N mark block reads = (t k : ℕ) → t ≤ n → k < N → leads n N mark block t k ≡ true → counted n N mark block reads t k < 65536
 
 -- the counts of the links by which the removal of a kernel goes on from a dart of it, by a row
-abbrev pub counts_on : Kernel → Bor (List ℕ) → Bor (List ℕ) → Bor (List ℕ) → Bor (List ℕ) → ℕ → ℕ → ℕ
+abbrev pub counts_on : Kernel → List ℕ → List ℕ → List ℕ → List ℕ → ℕ → ℕ → ℕ
 counts_on k lambda delta block reads t d = counts_from (map_of k block) k.n.0 (row_of k lambda delta) (map_of k reads) k.darts t d
 
 -- what following the marks of a kernel and summing along them asks of the block and the table of counts
-abbrev pub CanFollow : Kernel → Bor (List ℕ) → Bor (List ℕ) → Bor (List ℕ) → Bor (List ℕ) → Type 0
+abbrev pub CanFollow : Kernel → List ℕ → List ℕ → List ℕ → List ℕ → Type 0
 CanFollow k lambda delta block reads =
-    Marks k.n.0 k.darts k.level.0 lambda.now delta.now × Followed k.n.0 k.darts (row_of k lambda delta) block.now × (length reads.now ≡ length block.now)
+    Marks k.n.0 k.darts k.level.0 lambda delta × Followed k.n.0 k.darts (row_of k lambda delta) block × (length reads ≡ length block)
 
 -- the kernel can be taken out of the block, and its darts are strung
-abbrev pub CanTake : Kernel → Bor (List ℕ) → Bor (List ℕ) → Bor (List ℕ) → Bor (List ℕ) → Type 0
-CanTake k lambda delta next block = Ready k.n.0 k.darts (row_of k lambda delta) block.now × Strung k.n.0 k.darts k.level.0 k.first lambda.now delta.now next.now
+abbrev pub CanTake : Kernel → List ℕ → List ℕ → List ℕ → List ℕ → Type 0
+CanTake k lambda delta next block = Ready k.n.0 k.darts (row_of k lambda delta) block × Strung k.n.0 k.darts k.level.0 k.first lambda delta next
 
 -- the counts that are carried along a kernel of a block
-abbrev pub CountsLed : Kernel → Bor (List ℕ) → Bor (List ℕ) → Bor (List ℕ) → Bor (List ℕ) → Bor (List ℕ) → Type 0
+abbrev pub CountsLed : Kernel → List ℕ → List ℕ → List ℕ → List ℕ → List ℕ → Type 0
 CountsLed k lambda delta block before after =
-    Led k.n.0 k.darts (row_of k lambda delta) block.now (counted k.n.0 k.darts (row_of k lambda delta) block.now before.now) before.now after.now
+    Led k.n.0 k.darts (row_of k lambda delta) block (counted k.n.0 k.darts (row_of k lambda delta) block before) before after
 
 -- and the levels since which
-abbrev pub SinceLed : Kernel → Bor (List ℕ) → Bor (List ℕ) → Bor (List ℕ) → Bor (List ℕ) → Bor (List ℕ) → Type 0
-SinceLed k lambda delta block before after = Led k.n.0 k.darts (row_of k lambda delta) block.now (λ _ _. suc k.level.0) before.now after.now
+abbrev pub SinceLed : Kernel → List ℕ → List ℕ → List ℕ → List ℕ → List ℕ → Type 0
+SinceLed k lambda delta block before after = Led k.n.0 k.darts (row_of k lambda delta) block (λ _ _. suc k.level.0) before after

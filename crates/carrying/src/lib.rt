@@ -76,9 +76,9 @@ fn follow(
     reads: &[u16],
     start: Start,
 ) -> usize
-    requires can_follow { CanFollow kernel lambda delta block reads }
+    requires can_follow { CanFollow kernel lambda.now delta.now block.now reads.now }
     requires row_le_n { (start.row.0 ≤ kernel.n.0) × (start.dart < kernel.darts) × (each lambda.now start.dart ≡ kernel.level.0) × ((between_of (each delta.now start.dart)).0 ≡ start.row.0) }
-    ensures answer { result ≡ counts_on kernel lambda.entry delta.entry block.entry reads.entry start.row.0 start.dart }
+    ensures answer { result ≡ counts_on kernel lambda.now delta.now block.now reads.now start.row.0 start.dart }
     ensures small { result ≤ 131072 * 4096 }
 {
     let darts = kernel.darts as usize;
@@ -110,9 +110,9 @@ pub fn carry(
     block: &[u16],
     reads: &mut [u16],
 )
-    requires can_take { CanTake kernel lambda delta next block }
-    requires reads_len { (length reads.old ≡ length block.now) × Fits kernel.n.0 kernel.darts (row_of kernel lambda delta) block.now reads.old }
-    ensures { CountsLed kernel lambda.entry delta.entry block.entry reads.entry reads.exit }
+    requires can_take { CanTake kernel lambda.now delta.now next.now block.now }
+    requires reads_len { (length reads.old ≡ length block.now) × Fits kernel.n.0 kernel.darts (row_of kernel lambda.now delta.now) block.now reads.old }
+    ensures { CountsLed kernel lambda.now delta.now block.now reads.old reads.new }
 {
     let darts = kernel.darts as usize;
     let mut d = kernel.first as usize;
@@ -140,9 +140,9 @@ pub fn date(
     block: &[u16],
     since: &mut [u16],
 )
-    requires can_take { CanTake kernel lambda delta next block }
+    requires can_take { CanTake kernel lambda.now delta.now next.now block.now }
     requires since_len { length since.old ≡ length block.now }
-    ensures { SinceLed kernel lambda.entry delta.entry block.entry since.entry since.exit }
+    ensures { SinceLed kernel lambda.now delta.now block.now since.old since.new }
 {
     let darts = kernel.darts as usize;
     let mut d = kernel.first as usize;

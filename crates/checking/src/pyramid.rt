@@ -27,7 +27,7 @@ fn fit(n: Dim, darts: u16, rows: usize, lambda: usize, delta: usize, others: boo
 
 // Numbers 1 to 4 of base rows, marks and a table.
 fn lent(sizes: Sizes, rows: &[u16], lambda: &[u8], delta: &[u8], table: &[u16]) -> Check
-    ensures { verdict_of result ≡ lent_sizes (lent sizes rows.entry lambda.entry delta.entry) table.now }
+    ensures { verdict_of result ≡ lent_sizes (lent sizes rows.now lambda.now delta.now) table.now }
 {
     let whole = answers::rows_fit(sizes.n, sizes.darts, table.len());
     let all = fit(
@@ -44,7 +44,7 @@ fn lent(sizes: Sizes, rows: &[u16], lambda: &[u8], delta: &[u8], table: &[u16]) 
 // Numbers 5 to 8, before anything lent is written.
 fn base_and_marks(sizes: Sizes, rows: &[u16], lambda: &[u8], delta: &[u8]) -> Check
     requires { (base_sizes sizes.n.0 sizes.darts rows.now ≡ accepted) × (length lambda.now ≡ sizes.darts) × (length delta.now ≡ sizes.darts) }
-    ensures { verdict_of result ≡ base_and_marks (lent sizes rows.entry lambda.entry delta.entry) }
+    ensures { verdict_of result ≡ base_and_marks (lent sizes rows.now lambda.now delta.now) }
 {
     if let Check::Refused(r) = bases::check_base(sizes.n, sizes.darts, rows) {
         return Check::Refused(r);
@@ -54,7 +54,7 @@ fn base_and_marks(sizes: Sizes, rows: &[u16], lambda: &[u8], delta: &[u8]) -> Ch
 
 // Numbers 1 to 8, before anything lent is written.
 pub fn early(sizes: Sizes, rows: &[u16], lambda: &[u8], delta: &[u8], table: &[u16]) -> Check
-    ensures { verdict_of result ≡ early_of (lent sizes rows.entry lambda.entry delta.entry) table.now }
+    ensures { verdict_of result ≡ early_of (lent sizes rows.now lambda.now delta.now) table.now }
 {
     if let Check::Refused(r) = lent(sizes, rows, lambda, delta, table) {
         return Check::Refused(r);
@@ -64,8 +64,8 @@ pub fn early(sizes: Sizes, rows: &[u16], lambda: &[u8], delta: &[u8], table: &[u
 
 // Check a whole pyramid. Accepted, the table holds the explicit level h; after 9 or 10 the level whose kernel failed.
 pub fn check(sizes: Sizes, rows: &[u16], lambda: &[u8], delta: &[u8], table: &mut [u16]) -> Check
-    ensures verdict { verdict_of result ≡ check_lent (lent sizes rows.entry lambda.entry delta.entry) table.old }
-    ensures table_left { table.new ≡ check_leaves (lent sizes rows.entry lambda.entry delta.entry) table.old }
+    ensures verdict { verdict_of result ≡ check_lent (lent sizes rows.now lambda.now delta.now) table.old }
+    ensures table_left { table.new ≡ check_leaves (lent sizes rows.now lambda.now delta.now) table.old }
 {
     if let Check::Refused(r) = early(sizes, rows, lambda, delta, table) {
         return Check::Refused(r);
@@ -89,7 +89,7 @@ fn add_lent(
     row: &[u8],
     table: &[u16],
 ) -> Check
-    ensures { verdict_of result ≡ add_sizes (lent sizes rows.entry lambda.entry delta.entry) row.now table.now }
+    ensures { verdict_of result ≡ add_sizes (lent sizes rows.now lambda.now delta.now) row.now table.now }
 {
     let whole = answers::both(
         answers::row_fits(sizes.darts, row.len()),
@@ -174,7 +174,7 @@ fn row_checked(sizes: Sizes, lambda: &[u8], row: &[u8]) -> Check
 // Numbers 5 to 8 of an add: the mark row comes last.
 fn add_marked(sizes: Sizes, rows: &[u16], lambda: &[u8], delta: &[u8], row: &[u8]) -> Check
     requires { (base_sizes sizes.n.0 sizes.darts rows.now ≡ accepted) × (length lambda.now ≡ sizes.darts) × (length delta.now ≡ sizes.darts) × (length row.now ≡ sizes.darts) }
-    ensures { verdict_of result ≡ add_marks (lent sizes rows.entry lambda.entry delta.entry) row.now }
+    ensures { verdict_of result ≡ add_marks (lent sizes rows.now lambda.now delta.now) row.now }
 {
     if let Check::Refused(r) = base_and_marks(sizes, rows, lambda, delta) {
         return Check::Refused(r);
@@ -259,10 +259,10 @@ fn ascend(
     row: &[u8],
     table: &mut [u16],
 ) -> Check
-    requires base { Base (lent sizes rows lambda delta) × (sizes.h.0 ≤ 32) × (length table.old ≡ length rows.now) }
+    requires base { Base (lent sizes rows.now lambda.now delta.now) × (sizes.h.0 ≤ 32) × (length table.old ≡ length rows.now) }
     requires row_len { (length row.now ≡ sizes.darts) × Row sizes.n.0 sizes.darts sizes.h.0 (each lambda.now) (each row.now) }
-    ensures verdict { verdict_of result ≡ ascends (lent sizes rows.entry lambda.entry delta.entry) row.now }
-    ensures table_left { table.new ≡ ascend_leaves (lent sizes rows.entry lambda.entry delta.entry) row.now }
+    ensures verdict { verdict_of result ≡ ascends (lent sizes rows.now lambda.now delta.now) row.now }
+    ensures table_left { table.new ≡ ascend_leaves (lent sizes rows.now lambda.now delta.now) row.now }
 {
     let darts = sizes.darts;
     let width = darts as usize;
@@ -299,11 +299,11 @@ pub fn add(
     row: &[u8],
     table: &mut [u16],
 ) -> Height
-    ensures answer { verdict_by result ≡ add_lent (lent sizes rows.entry lambda.entry delta.entry) row.now table.old }
-    ensures height { height_of sizes.h.0 result ≡ add_height (lent sizes rows.entry lambda.entry delta.entry) row.now table.old }
-    ensures lambda_left { lambda.new ≡ add_lambda (lent sizes rows.entry lambda.entry delta.entry) row.now table.old }
-    ensures delta_left { delta.new ≡ add_delta (lent sizes rows.entry lambda.entry delta.entry) row.now table.old }
-    ensures table_left { table.new ≡ add_leaves (lent sizes rows.entry lambda.entry delta.entry) row.now table.old }
+    ensures answer { verdict_by result ≡ add_lent (lent sizes rows.now lambda.old delta.old) row.now table.old }
+    ensures height { height_of sizes.h.0 result ≡ add_height (lent sizes rows.now lambda.old delta.old) row.now table.old }
+    ensures lambda_left { lambda.new ≡ add_lambda (lent sizes rows.now lambda.old delta.old) row.now table.old }
+    ensures delta_left { delta.new ≡ add_delta (lent sizes rows.now lambda.old delta.old) row.now table.old }
+    ensures table_left { table.new ≡ add_leaves (lent sizes rows.now lambda.old delta.old) row.now table.old }
 {
     if let Check::Refused(r) = add_lent(sizes, rows, lambda, delta, row, table) {
         return Height::Refused(r);

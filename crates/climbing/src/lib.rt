@@ -77,9 +77,9 @@ pub fn go_on(
 
 // Kernels 0 to level−1, from the base.
 pub fn climb_to(at: AtLevel, rows: &[u16], lambda: &[u8], delta: &[u8], table: &mut [u16]) -> Check
-    requires { Base (lent at.sizes rows lambda delta) × (at.level.0 ≤ at.sizes.h.0) × (length table.old ≡ length rows.now) }
-    ensures verdict { verdict_of result ≡ climbs_to (lent at.sizes rows.entry lambda.entry delta.entry) at.level.0 }
-    ensures table_left { table.new ≡ climb_to_leaves (lent at.sizes rows.entry lambda.entry delta.entry) at.level.0 }
+    requires { Base (lent at.sizes rows.now lambda.now delta.now) × (at.level.0 ≤ at.sizes.h.0) × (length table.old ≡ length rows.now) }
+    ensures verdict { verdict_of result ≡ climbs_to (lent at.sizes rows.now lambda.now delta.now) at.level.0 }
+    ensures table_left { table.new ≡ climb_to_leaves (lent at.sizes rows.now lambda.now delta.now) at.level.0 }
 {
     let mut head = [ABSENT; HEADS];
     let mut next = [0u16; ROOM];
@@ -95,9 +95,9 @@ pub fn climb_to(at: AtLevel, rows: &[u16], lambda: &[u8], delta: &[u8], table: &
 
 // Kernels 0 to h−1, from the base.
 pub fn rise(sizes: Sizes, rows: &[u16], lambda: &[u8], delta: &[u8], table: &mut [u16]) -> Check
-    requires { Base (lent sizes rows lambda delta) × (length table.old ≡ length rows.now) }
-    ensures verdict { verdict_of result ≡ climbs (lent sizes rows.entry lambda.entry delta.entry) }
-    ensures table_left { table.new ≡ climb_leaves (lent sizes rows.entry lambda.entry delta.entry) }
+    requires { Base (lent sizes rows.now lambda.now delta.now) × (length table.old ≡ length rows.now) }
+    ensures verdict { verdict_of result ≡ climbs (lent sizes rows.now lambda.now delta.now) }
+    ensures table_left { table.new ≡ climb_leaves (lent sizes rows.now lambda.now delta.now) }
 {
     let level = sizes.h;
     climb_to(AtLevel { sizes, level }, rows, lambda, delta, table)

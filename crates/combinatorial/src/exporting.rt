@@ -78,7 +78,7 @@ fn take_rows(darts: u16, rows: &[u16], edges: &mut [u16], vertices: &mut [u16])
 
 // Take a base back by the tests of the base check, which name what is refused. All is tested before an entry is written.
 fn tested(n: Dim, darts: u16, rows: &[u16], edges: &mut [u16], vertices: &mut [u16]) -> Check
-    ensures { ExportLeft n.0 darts rows.entry edges.entry vertices.entry (verdict_of result) edges.exit vertices.exit }
+    ensures { ExportLeft n.0 darts rows.now edges.old vertices.old (verdict_of result) edges.new vertices.new }
 {
     if let Check::Refused(r) = base_refused(n, darts, rows, edges.len(), vertices.len()) {
         return Check::Refused(r);
@@ -182,7 +182,7 @@ fn yielded(n: Dim, darts: u16, rows: &[u16], edges: usize, vertices: usize) -> b
 
 // Take a base back. What is refused is sought only where the pattern of two rows isn't found.
 pub fn export(n: Dim, darts: u16, rows: &[u16], edges: &mut [u16], vertices: &mut [u16]) -> Check
-    ensures { ExportLeft n.0 darts rows.entry edges.entry vertices.entry (verdict_of result) edges.exit vertices.exit }
+    ensures { ExportLeft n.0 darts rows.now edges.old vertices.old (verdict_of result) edges.new vertices.new }
 {
     if !yielded(n, darts, rows, edges.len(), vertices.len()) {
         return tested(n, darts, rows, edges, vertices);

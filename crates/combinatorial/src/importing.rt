@@ -159,7 +159,7 @@ fn put_sides(darts: u16, rows: &mut [u16])
 // Bring in a 2D combinatorial map of M darts. All is tested before an entry is written.
 pub fn import(darts: u16, edges: &[u16], vertices: &[u16], rows: &mut [u16]) -> Check
     ensures verdict { verdict_of result ≡ import_lent darts edges.now vertices.now rows.old }
-    ensures rows_left { ImportLeft darts edges.entry vertices.entry rows.entry rows.exit }
+    ensures rows_left { ImportLeft darts edges.now vertices.now rows.old rows.new }
 {
     if let Check::Refused(r) = sizes(darts, edges.len(), vertices.len(), rows.len()) {
         return Check::Refused(r);

@@ -13,9 +13,9 @@ use writing::Written;
 
 // The record of an accepted pyramid that stands at the front of slices.
 fn write_front(sizes: Sizes, rows: &[u16], lambda: &[u8], delta: &[u8], new: &mut [u8]) -> Written
-    requires { Checked (front sizes rows lambda delta) }
-    ensures answer { written_of result ≡ putting (front sizes rows.entry lambda.entry delta.entry) new.old }
-    ensures new_left { new.new ≡ put_leaves (front sizes rows.entry lambda.entry delta.entry) new.old }
+    requires { Checked (front sizes rows.now lambda.now delta.now) }
+    ensures answer { written_of result ≡ putting (front sizes rows.now lambda.now delta.now) new.old }
+    ensures new_left { new.new ≡ put_leaves (front sizes rows.now lambda.now delta.now) new.old }
 {
     let width = sizes.darts as usize;
     let size = answers::entries(sizes.n, sizes.darts);

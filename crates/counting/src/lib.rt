@@ -49,9 +49,9 @@ fn count_levels(
     delta: &[u8],
     table: &mut [u16],
 ) -> [[u16; MOST_ROWS]; LEVELS]
-    requires { Accepted (lent sizes rows lambda delta) table.old }
-    ensures counted { Counted (lent sizes rows.entry lambda.entry delta.entry) result (sizes.h.0 + 1) }
-    ensures table_left { table.new ≡ table_at (lent sizes rows.entry lambda.entry delta.entry) sizes.h.0 }
+    requires { Accepted (lent sizes rows.now lambda.now delta.now) table.old }
+    ensures counted { Counted (lent sizes rows.now lambda.now delta.now) result (sizes.h.0 + 1) }
+    ensures table_left { table.new ≡ table_at (lent sizes rows.now lambda.now delta.now) sizes.h.0 }
 {
     let mut head = [ABSENT; HEADS];
     let mut next = [0u16; ROOM];
@@ -86,9 +86,9 @@ pub fn census(
     cells: &mut [[u16; MOST_ROWS]; LEVELS],
     sums: &mut [i32; LEVELS],
 ) -> Check
-    ensures verdict { verdict_of result ≡ check_lent (lent sizes rows.entry lambda.entry delta.entry) table.old }
-    ensures table_left { table.new ≡ check_leaves (lent sizes rows.entry lambda.entry delta.entry) table.old }
-    ensures counts { CensusLeft (lent sizes rows.entry lambda.entry delta.entry) table.entry cells.entry sums.entry cells.exit sums.exit }
+    ensures verdict { verdict_of result ≡ check_lent (lent sizes rows.now lambda.now delta.now) table.old }
+    ensures table_left { table.new ≡ check_leaves (lent sizes rows.now lambda.now delta.now) table.old }
+    ensures counts { CensusLeft (lent sizes rows.now lambda.now delta.now) table.old cells.old sums.old cells.new sums.new }
 {
     if let Check::Refused(r) = checking::check(sizes, rows, lambda, delta, table) {
         return Check::Refused(r);

@@ -53,9 +53,9 @@ pub fn census_into(
     cells: &mut [u16],
     sums: &mut [i32],
 ) -> Check
-    ensures verdict { verdict_of result ≡ census_lent (lent sizes rows.entry lambda.entry delta.entry) table.old cells.old sums.old }
-    ensures table_left { table.new ≡ census_table (lent sizes rows.entry lambda.entry delta.entry) table.old cells.old sums.old }
-    ensures counts_left { CensusPutLeft (lent sizes rows.entry lambda.entry delta.entry) table.entry cells.entry sums.entry cells.exit sums.exit }
+    ensures verdict { verdict_of result ≡ census_lent (lent sizes rows.now lambda.now delta.now) table.old cells.old sums.old }
+    ensures table_left { table.new ≡ census_table (lent sizes rows.now lambda.now delta.now) table.old cells.old sums.old }
+    ensures counts_left { CensusPutLeft (lent sizes rows.now lambda.now delta.now) table.old cells.old sums.old cells.new sums.new }
 {
     if !answers::both(cells.len() == COUNTS, sums.len() == LEVELS) {
         return answers::lent(sizes, false);

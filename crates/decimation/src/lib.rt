@@ -34,8 +34,8 @@ pub fn decimation(
     table: &mut [u16],
     level: Level,
 ) -> Factor
-    ensures answer { factor_of result ≡ decimating (lent sizes rows.entry lambda.entry delta.entry) table.old level.0 }
-    ensures table_left { table.new ≡ decimation_table (lent sizes rows.entry lambda.entry delta.entry) table.old level.0 }
+    ensures answer { factor_of result ≡ decimating (lent sizes rows.now lambda.now delta.now) table.old level.0 }
+    ensures table_left { table.new ≡ decimation_table (lent sizes rows.now lambda.now delta.now) table.old level.0 }
 {
     if let Check::Refused(r) = checking::check(sizes, rows, lambda, delta, table) {
         return Factor::Refused(r);

@@ -43,8 +43,8 @@ fn onward(
     asked: Question,
     met: u16,
 ) -> Rest
-    requires { Allowed (lent sizes rows lambda delta) asked.level.0 × Meets (lent sizes rows lambda delta) asked.level.0 asked.involution.0 asked.dart met }
-    ensures { Tells (lent sizes rows.entry lambda.entry delta.entry) asked.level.0 asked.involution.0 asked.dart result }
+    requires { Allowed (lent sizes rows.now lambda.now delta.now) asked.level.0 × Meets (lent sizes rows.now lambda.now delta.now) asked.level.0 asked.involution.0 asked.dart met }
+    ensures { Tells (lent sizes rows.now lambda.now delta.now) asked.level.0 asked.involution.0 asked.dart result }
 {
     let darts = sizes.darts;
     let most = 1 + 2 * darts as u32;
@@ -101,8 +101,8 @@ pub fn fill(
     level: Level,
     table: &mut [u16],
 ) -> Walks
-    requires { Allowed (lent sizes rows lambda delta) level.0 × (length table.old ≡ suc sizes.n.0 * sizes.darts) }
-    ensures { Leaves (lent sizes rows.entry lambda.entry delta.entry) level.0 result table.new }
+    requires { Allowed (lent sizes rows.now lambda.now delta.now) level.0 × (length table.old ≡ suc sizes.n.0 * sizes.darts) }
+    ensures { Leaves (lent sizes rows.now lambda.now delta.now) level.0 result table.new }
 {
     let n = sizes.n;
     let darts = sizes.darts;

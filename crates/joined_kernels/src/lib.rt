@@ -59,9 +59,9 @@ fn tested(at: AtLevel, lambda: &[u8], delta: &[u8], table: &[u16]) -> Check
 
 // All kernels, from the base, and on the way up, on its level, the joined one, whose refusal comes last. Only such a refusal climbs again, to leave that level. The strings, 8,704 bytes, are local.
 pub fn climb(at: AtLevel, rows: &[u16], lambda: &[u8], delta: &[u8], table: &mut [u16]) -> Check
-    requires { Base (lent at.sizes rows lambda delta) × (suc at.level.0 < at.sizes.h.0) × (length table.old ≡ length rows.now) }
-    ensures verdict { verdict_of result ≡ climbs_joined (lent at.sizes rows.entry lambda.entry delta.entry) at.level.0 }
-    ensures table_left { table.new ≡ climb_joined_leaves (lent at.sizes rows.entry lambda.entry delta.entry) at.level.0 }
+    requires { Base (lent at.sizes rows.now lambda.now delta.now) × (suc at.level.0 < at.sizes.h.0) × (length table.old ≡ length rows.now) }
+    ensures verdict { verdict_of result ≡ climbs_joined (lent at.sizes rows.now lambda.now delta.now) at.level.0 }
+    ensures table_left { table.new ≡ climb_joined_leaves (lent at.sizes rows.now lambda.now delta.now) at.level.0 }
 {
     let sizes = at.sizes;
     let mut head = [ABSENT; HEADS];

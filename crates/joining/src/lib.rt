@@ -39,10 +39,10 @@ pub fn join(
     table: &mut [u16],
     level: Level,
 ) -> Height
-    ensures answer { verdict_by result ≡ join_lent (lent sizes rows.entry lambda.entry delta.entry) table.old level.0 }
-    ensures height { height_of sizes.h.0 result ≡ join_height (lent sizes rows.entry lambda.entry delta.entry) table.old level.0 }
-    ensures lambda_left { lambda.new ≡ join_lambda (lent sizes rows.entry lambda.entry delta.entry) table.old level.0 }
-    ensures table_left { table.new ≡ join_leaves (lent sizes rows.entry lambda.entry delta.entry) table.old level.0 }
+    ensures answer { verdict_by result ≡ join_lent (lent sizes rows.now lambda.old delta.now) table.old level.0 }
+    ensures height { height_of sizes.h.0 result ≡ join_height (lent sizes rows.now lambda.old delta.now) table.old level.0 }
+    ensures lambda_left { lambda.new ≡ join_lambda (lent sizes rows.now lambda.old delta.now) table.old level.0 }
+    ensures table_left { table.new ≡ join_leaves (lent sizes rows.now lambda.old delta.now) table.old level.0 }
 {
     if no_pair(sizes.h, level) {
         if let Check::Refused(r) = checking::check(sizes, rows, lambda, delta, table) {

@@ -1,6 +1,5 @@
 -- What the tests and the removal of one kernel ask of the level's table and the mark row, and what they leave. Assumes nothing: these are definitions.
 use Rattle.std.specs.Prelude.{◌≡◌, Bool, true, cond, ◌&&◌, not, List, ℕ, ◌+◌, ◌*◌, ◌<◌, ◌≤◌, length, eqb, ltb}
-use Rattle.std.specs.Borrow.{Bor}
 use Rattle.maps.specs.Verdict.{if_accepted}
 use Rattle.maps.specs.Map.{Involutions}
 use Rattle.maps.specs.Count.{sum}
@@ -15,12 +14,12 @@ use Rattle.kernels.specs.declared.Kernel.{Kernel as Declared}
 use Rattle.kernels.specs.Strings.{kernel_row}
 
 -- the level that a kernel is lent, as a map
-abbrev pub map_of : Declared → Bor (List ℕ) → Involutions
-map_of kernel table = entry kernel.darts table.now
+abbrev pub map_of : Declared → List ℕ → Involutions
+map_of kernel table = entry kernel.darts table
 
 -- its mark row, from Λ and Δ
-abbrev pub row_of : Declared → Bor (List ℕ) → Bor (List ℕ) → ℕ → ℕ
-row_of kernel lambda delta = kernel_row lambda.now delta.now kernel.level.0
+abbrev pub row_of : Declared → List ℕ → List ℕ → ℕ → ℕ
+row_of kernel lambda delta = kernel_row lambda delta kernel.level.0
 
 -- the entry of row i and dart d lies in the table, and its place is small
 pub record Place (N : ℕ) (table : List ℕ) (i d : ℕ) : Type 0 where
@@ -51,15 +50,15 @@ abbrev pub left : ℕ → ℕ → (ℕ → ℕ) → List ℕ → ℕ → Bool
 left n N mark table d = present N table d && not (is_mark n (mark d))
 
 -- where following the marks of a kernel leads from dart d by row i
-abbrev pub past_marks : Declared → Bor (List ℕ) → Bor (List ℕ) → Bor (List ℕ) → ℕ → ℕ → ℕ
+abbrev pub past_marks : Declared → List ℕ → List ℕ → List ℕ → ℕ → ℕ → ℕ
 past_marks kernel lambda delta table = go_on (map_of kernel table) kernel.n.0 (row_of kernel lambda delta) kernel.darts
 
 -- and the turns that it takes
-abbrev pub turns_past : Declared → Bor (List ℕ) → Bor (List ℕ) → Bor (List ℕ) → ℕ → ℕ → ℕ
+abbrev pub turns_past : Declared → List ℕ → List ℕ → List ℕ → ℕ → ℕ → ℕ
 turns_past kernel lambda delta table = turns_from (map_of kernel table) kernel.n.0 (row_of kernel lambda delta) kernel.darts
 
 -- involution j, which is not the first row of this mark, leads from dart d to one that is not in the kernel with the mark
-abbrev pub leaves_by : Declared → Bor (List ℕ) → Bor (List ℕ) → Bor (List ℕ) → ℕ → ℕ → ℕ → Bool
+abbrev pub leaves_by : Declared → List ℕ → List ℕ → List ℕ → ℕ → ℕ → ℕ → Bool
 leaves_by kernel lambda delta table mark d j = not (eqb j (between mark).0) && not (eqb (row_of kernel lambda delta (map_of kernel table j d)) mark)
 
 -- an entry below N of a dart that is not marked leads on past the marks; every other entry stays
@@ -83,8 +82,8 @@ pub record TableIs (N : ℕ) (f : ℕ → ℕ → ℕ) (before after : List ℕ)
   pub rows : (t d : ℕ) → d < N → entry N after t d ≡ f t d
 
 -- the table after, with the links of the survivors past the marks of a kernel
-abbrev pub LinksPast : Declared → Bor (List ℕ) → Bor (List ℕ) → Bor (List ℕ) → Bor (List ℕ) → Type 0
-LinksPast kernel lambda delta before after = TableIs kernel.darts (relinked kernel.n.0 kernel.darts (row_of kernel lambda delta) before.now) before.now after.now
+abbrev pub LinksPast : Declared → List ℕ → List ℕ → List ℕ → List ℕ → Type 0
+LinksPast kernel lambda delta before after = TableIs kernel.darts (relinked kernel.n.0 kernel.darts (row_of kernel lambda delta) before) before after
 
 -- the table after, with 65,535 at the entries that pass the test; the others are as before
 abbrev pub Cleared : ℕ → (ℕ → ℕ → Bool) → List ℕ → List ℕ → Type 0

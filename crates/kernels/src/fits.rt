@@ -150,9 +150,9 @@ pub(crate) fn fits(
     next: &[u16; ROOM],
     table: &[u16],
 ) -> bool
-    requires tested { Tested kernel.n.0 kernel.darts (row_of kernel lambda delta) table.now }
+    requires tested { Tested kernel.n.0 kernel.darts (row_of kernel lambda.now delta.now) table.now }
     requires strung { Strung kernel.n.0 kernel.darts kernel.level.0 kernel.first lambda.now delta.now next.now }
-    ensures { result ≡ true → check_kernel (map_of kernel table.entry) kernel.n.0 kernel.darts (row_of kernel lambda.entry delta.entry) kernel.level.0 ≡ accepted }
+    ensures { result ≡ true → check_kernel (map_of kernel table.now) kernel.n.0 kernel.darts (row_of kernel lambda.now delta.now) kernel.level.0 ≡ accepted }
 {
     let n = kernel.n;
     let level = kernel.level;

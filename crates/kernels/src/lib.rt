@@ -33,10 +33,10 @@ pub fn step(
     next: &[u16; ROOM],
     table: &mut [u16],
 ) -> Check
-    requires tested { Tested kernel.n.0 kernel.darts (row_of kernel lambda delta) table.old }
+    requires tested { Tested kernel.n.0 kernel.darts (row_of kernel lambda.now delta.now) table.old }
     requires strung { Strung kernel.n.0 kernel.darts kernel.level.0 kernel.first lambda.now delta.now next.now }
-    ensures verdict { verdict_of result ≡ check_kernel (map_of kernel table.entry) kernel.n.0 kernel.darts (row_of kernel lambda.entry delta.entry) kernel.level.0 }
-    ensures table_left { table.new ≡ step_leaves kernel.n.0 kernel.darts kernel.level.0 (row_of kernel lambda.entry delta.entry) table.old }
+    ensures verdict { verdict_of result ≡ check_kernel (map_of kernel table.old) kernel.n.0 kernel.darts (row_of kernel lambda.now delta.now) kernel.level.0 }
+    ensures table_left { table.new ≡ step_leaves kernel.n.0 kernel.darts kernel.level.0 (row_of kernel lambda.now delta.now) table.old }
 {
     if let Check::Refused(r) = tested(kernel, lambda, delta, next, table) {
         return Check::Refused(r);

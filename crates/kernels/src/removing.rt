@@ -44,10 +44,10 @@ struct End {
 
 // From the start, while there is a dart of kernel l whose mark has the first row that the start's has: on by the second row of that mark, then by the first. The rows of a mark are found anew only where it changes.
 fn follow(kernel: Kernel, lambda: &[u8], delta: &[u8], table: &[u16], start: Start) -> End
-    requires marks { Marks kernel.n.0 kernel.darts kernel.level.0 lambda.now delta.now × Followed kernel.n.0 kernel.darts (row_of kernel lambda delta) table.now }
+    requires marks { Marks kernel.n.0 kernel.darts kernel.level.0 lambda.now delta.now × Followed kernel.n.0 kernel.darts (row_of kernel lambda.now delta.now) table.now }
     requires row_le_n { (start.row.0 ≤ kernel.n.0) × (start.dart < kernel.darts) × (each lambda.now start.dart ≡ kernel.level.0) × ((between_of (each delta.now start.dart)).0 ≡ start.row.0) }
-    ensures end { (result.dart ≡ past_marks kernel lambda.entry delta.entry table.entry start.row.0 start.dart) × (result.dart < kernel.darts) }
-    ensures turns { result.turns ≡ turns_past kernel lambda.entry delta.entry table.entry start.row.0 start.dart }
+    ensures end { (result.dart ≡ past_marks kernel lambda.now delta.now table.now start.row.0 start.dart) × (result.dart < kernel.darts) }
+    ensures turns { result.turns ≡ turns_past kernel lambda.now delta.now table.now start.row.0 start.dart }
 {
     let darts = kernel.darts as usize;
     let l = kernel.level;
@@ -120,10 +120,10 @@ fn relink(
     next: &[u16; ROOM],
     table: &mut [u16],
 ) -> usize
-    requires ready { Ready kernel.n.0 kernel.darts (row_of kernel lambda delta) table.old }
+    requires ready { Ready kernel.n.0 kernel.darts (row_of kernel lambda.now delta.now) table.old }
     requires strung { Strung kernel.n.0 kernel.darts kernel.level.0 kernel.first lambda.now delta.now next.now }
-    ensures answer { result ≡ turns_made kernel.n.0 kernel.darts (row_of kernel lambda.entry delta.entry) table.old }
-    ensures table_left { LinksPast kernel lambda.entry delta.entry table.entry table.exit }
+    ensures answer { result ≡ turns_made kernel.n.0 kernel.darts (row_of kernel lambda.now delta.now) table.old }
+    ensures table_left { LinksPast kernel lambda.now delta.now table.old table.new }
 {
     let darts = kernel.darts as usize;
     let mut turns = 0;
@@ -184,9 +184,9 @@ fn clear(n: Dim, darts: usize, next: &[u16; ROOM], first: u16, table: &mut [u16]
 
 // The kernel removed in place.
 pub fn remove(kernel: Kernel, lambda: &[u8], delta: &[u8], next: &[u16; ROOM], table: &mut [u16])
-    requires ready { Ready kernel.n.0 kernel.darts (row_of kernel lambda delta) table.old }
+    requires ready { Ready kernel.n.0 kernel.darts (row_of kernel lambda.now delta.now) table.old }
     requires strung { Strung kernel.n.0 kernel.darts kernel.level.0 kernel.first lambda.now delta.now next.now }
-    ensures { table.new ≡ removed_from kernel.n.0 kernel.darts (row_of kernel lambda.entry delta.entry) table.old }
+    ensures { table.new ≡ removed_from kernel.n.0 kernel.darts (row_of kernel lambda.now delta.now) table.old }
 {
     relink(kernel, lambda, delta, next, table);
     let n = kernel.n;

@@ -31,7 +31,7 @@ fn leaving(
 ) -> bool
     requires place { Place kernel.darts table.now j.0 marked.dart × (marked.mark.0 < stay) }
     requires dart_in_bounds { (entry kernel.darts table.now j.0 marked.dart < length lambda.now) × (entry kernel.darts table.now j.0 marked.dart < length delta.now) }
-    ensures { result ≡ leaves_by kernel lambda.entry delta.entry table.entry marked.mark.0 marked.dart j.0 }
+    ensures { result ≡ leaves_by kernel lambda.now delta.now table.now marked.mark.0 marked.dart j.0 }
 {
     let mark = marked.mark;
     let rows = answers::between(mark);
@@ -51,9 +51,9 @@ pub fn whole(
     next: &[u16; ROOM],
     table: &[u16],
 ) -> Check
-    requires tested { Tested kernel.n.0 kernel.darts (row_of kernel lambda delta) table.now }
+    requires tested { Tested kernel.n.0 kernel.darts (row_of kernel lambda.now delta.now) table.now }
     requires strung { Strung kernel.n.0 kernel.darts kernel.level.0 kernel.first lambda.now delta.now next.now }
-    ensures { verdict_of result ≡ check9 (map_of kernel table.entry) kernel.n.0 kernel.darts (row_of kernel lambda.entry delta.entry) kernel.level.0 }
+    ensures { verdict_of result ≡ check9 (map_of kernel table.now) kernel.n.0 kernel.darts (row_of kernel lambda.now delta.now) kernel.level.0 }
 {
     let n = kernel.n;
     let darts = kernel.darts as usize;
@@ -98,9 +98,9 @@ pub fn fitting(
     next: &[u16; ROOM],
     table: &[u16],
 ) -> Check
-    requires tested { Tested kernel.n.0 kernel.darts (row_of kernel lambda delta) table.now }
+    requires tested { Tested kernel.n.0 kernel.darts (row_of kernel lambda.now delta.now) table.now }
     requires strung { Strung kernel.n.0 kernel.darts kernel.level.0 kernel.first lambda.now delta.now next.now }
-    ensures { verdict_of result ≡ check10 (map_of kernel table.entry) kernel.n.0 kernel.darts (row_of kernel lambda.entry delta.entry) kernel.level.0 }
+    ensures { verdict_of result ≡ check10 (map_of kernel table.now) kernel.n.0 kernel.darts (row_of kernel lambda.now delta.now) kernel.level.0 }
 {
     let n = kernel.n;
     let darts = kernel.darts as usize;
@@ -134,9 +134,9 @@ pub fn tested(
     next: &[u16; ROOM],
     table: &[u16],
 ) -> Check
-    requires tested { Tested kernel.n.0 kernel.darts (row_of kernel lambda delta) table.now }
+    requires tested { Tested kernel.n.0 kernel.darts (row_of kernel lambda.now delta.now) table.now }
     requires strung { Strung kernel.n.0 kernel.darts kernel.level.0 kernel.first lambda.now delta.now next.now }
-    ensures { verdict_of result ≡ check_kernel (map_of kernel table.entry) kernel.n.0 kernel.darts (row_of kernel lambda.entry delta.entry) kernel.level.0 }
+    ensures { verdict_of result ≡ check_kernel (map_of kernel table.now) kernel.n.0 kernel.darts (row_of kernel lambda.now delta.now) kernel.level.0 }
 {
     if fits(kernel, lambda, delta, next, table) {
         return Check::Accepted;

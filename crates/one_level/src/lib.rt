@@ -62,10 +62,10 @@ pub fn unfold(
     level: Level,
     table: &mut [u16],
 ) -> Total
-    ensures verdict { check_of result ≡ unfold_lent (lent sizes rows.entry lambda.entry delta.entry) level.0 table.old }
-    ensures total { total_of result ≡ unfold_total (lent sizes rows.entry lambda.entry delta.entry) level.0 table.old }
-    ensures since { latest_of result ≡ unfold_since (lent sizes rows.entry lambda.entry delta.entry) level.0 table.old }
-    ensures table_left { table.new ≡ unfold_leaves (lent sizes rows.entry lambda.entry delta.entry) level.0 table.old }
+    ensures verdict { check_of result ≡ unfold_lent (lent sizes rows.now lambda.now delta.now) level.0 table.old }
+    ensures total { total_of result ≡ unfold_total (lent sizes rows.now lambda.now delta.now) level.0 table.old }
+    ensures since { latest_of result ≡ unfold_since (lent sizes rows.now lambda.now delta.now) level.0 table.old }
+    ensures table_left { table.new ≡ unfold_leaves (lent sizes rows.now lambda.now delta.now) level.0 table.old }
 {
     let n = sizes.n;
     let h = sizes.h;

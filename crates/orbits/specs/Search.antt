@@ -1,6 +1,5 @@
 -- A search by a queue, step by step. Assumes nothing: these are definitions.
 use Rattle.std.specs.Prelude.{◌≡◌, Bool, true, false, cond, List, ℕ, zero, suc, ◌+◌, ◌≤◌, length, get_or, set, ltb}
-use Rattle.std.specs.Borrow.{Bor}
 use Rattle.maps.specs.Map.{Involutions}
 use Rattle.maps.specs.Count.{count}
 
@@ -19,8 +18,8 @@ abbrev pub state : List Bool → List ℕ → ℕ → State
 state reached queue tail = record { reached = reached; queue = queue; tail = tail }
 
 -- the set and the queue as they are lent, up to a tail
-abbrev pub held : Bor (List Bool) → Bor (List ℕ) → ℕ → State
-held reached queue tail = state reached.now queue.now tail
+abbrev pub held : List Bool → List ℕ → ℕ → State
+held reached queue tail = state reached queue tail
 
 -- both have 4,096 places
 pub record Room (reached : List Bool) (queue : List ℕ) : Type 0 where

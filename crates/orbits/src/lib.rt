@@ -39,7 +39,7 @@ pub fn all_but_two(row: Dim) -> u8
 // Puts dart d in the queue, unless it is reached already; the queue's new end.
 fn push(d: u16, reached: &mut [bool; ROOM], queue: &mut [u16; ROOM], tail: usize) -> usize
     requires { (d < 4096) × (has reached.old d ≡ false → tail < 4096) }
-    ensures { held reached.exit queue.exit result ≡ pushed (held reached.entry queue.entry tail) d }
+    ensures { held reached.new queue.new result ≡ pushed (held reached.old queue.old tail) d }
 {
     let place = d as usize;
     if reached[place] {
@@ -82,8 +82,8 @@ fn push_by(
     queue: &mut [u16; ROOM],
 ) -> usize
     requires { Spreads from choice table.now (state reached.old queue.old from.tail) × (row.0 ≤ from.n.0) }
-    ensures pushes { held reached.exit queue.exit result ≡ pushed_by from choice table.now row.0 (held reached.entry queue.entry from.tail) }
-    ensures goes_on { Spreads (ending_at from result) choice table.now (held reached.exit queue.exit result) }
+    ensures pushes { held reached.new queue.new result ≡ pushed_by from choice table.now row.0 (held reached.old queue.old from.tail) }
+    ensures goes_on { Spreads (ending_at from result) choice table.now (held reached.new queue.new result) }
 {
     if !uses(choice, row) {
         return from.tail;
@@ -101,7 +101,7 @@ fn push_neighbours(
     queue: &mut [u16; ROOM],
 ) -> usize
     requires { Spreads from choice table.now (state reached.old queue.old from.tail) }
-    ensures { held reached.exit queue.exit result ≡ spread_by from choice table.now (held reached.entry queue.entry from.tail) }
+    ensures { held reached.new queue.new result ≡ spread_by from choice table.now (held reached.old queue.old from.tail) }
 {
     let n = from.n.0;
     let zero = push_by(from, Dim(0), choice, table, reached, queue);
@@ -131,7 +131,7 @@ pub fn orbit(
     requires ready { Ready search.n.0 search.darts table.now (chosen choices.now) search.dart (has reached.old) }
     requires stored { Stored search.darts (state reached.old queue.old search.tail) }
     requires le_n { 1 ≤ search.n.0 }
-    ensures { Finds search table.now (chosen choices.now) (held reached.entry queue.entry search.tail) (held reached.exit queue.exit result) }
+    ensures { Finds search table.now (chosen choices.now) (held reached.old queue.old search.tail) (held reached.new queue.new result) }
 {
     let n = search.n;
     let darts = search.darts;

@@ -1,6 +1,5 @@
 -- Values packed to a place, one after the other, of the numbers that pass a test. Assumes nothing: these are definitions.
 use Rattle.std.specs.Prelude.{◌≡◌, Bool, true, List, ℕ, suc, ◌+◌, ◌*◌, ◌/◌, ◌%◌, ◌≤◌, ◌<◌, length, get_or}
-use Rattle.std.specs.Borrow.{Bor}
 use Rattle.maps.specs.Count.{count}
 use Rattle.maps.specs.Mark.{stay}
 use Rattle.maps.specs.Table.{entry, each, listed, absent}
@@ -28,8 +27,8 @@ abbrev pub RowInside : List ℕ → ℕ → List ℕ → List ℕ → ℕ → Ty
 RowInside lambda l ranks rows from = Inside (each lambda) l (length lambda) (length ranks) (λ d. get_or rows (from + d) 0)
 
 -- its survivors' entries stand from `to` on, as ranks
-abbrev pub RowPacked : Bor (List ℕ) → ℕ → Bor (List ℕ) → ℕ → ℕ → Bor (List ℕ) → Bor (List ℕ) → Type 0
-RowPacked lambda l ranks from to before after = Packs (survives (each lambda.now) l) (λ d. each ranks.now (get_or before.now (from + d) 0)) to (length lambda.now) before.now after.now
+abbrev pub RowPacked : List ℕ → ℕ → List ℕ → ℕ → ℕ → List ℕ → List ℕ → Type 0
+RowPacked lambda l ranks from to before after = Packs (survives (each lambda) l) (λ d. each ranks (get_or before (from + d) 0)) to (length lambda) before after
 
 -- how many darts are on level l
 abbrev pub count_on : List ℕ → ℕ → ℕ

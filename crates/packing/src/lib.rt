@@ -63,7 +63,7 @@ fn fill_marks(row: &mut [u8], from: usize)
 // The entries of the survivors in the row that begins at `from`, as ranks, put one after the other from `to` on.
 fn pack_row(lambda: &[u8], level: Level, ranks: &[u16], rows: &mut [u16], from: usize, to: usize)
     requires { (to ≤ from) × (from + length lambda.now ≤ length rows.old) × RowInside lambda.now level.0 ranks.now rows.old from }
-    ensures { RowPacked lambda.entry level.0 ranks.entry from to rows.entry rows.exit }
+    ensures { RowPacked lambda.now level.0 ranks.now from to rows.old rows.new }
 {
     let mut next = to;
     for d in 0..lambda.len() {

@@ -9,7 +9,7 @@ use answers::{Check, Question, Refusal, Sizes};
 
 // What is tested before a walk: 1, 2, 3, 4, 11, 13, then 12, 8 and 12 of the starting dart.
 pub fn question(sizes: Sizes, rows: &[u16], lambda: &[u8], delta: &[u8], asked: Question) -> Check
-    ensures { verdict_of result ≡ question_of (lent sizes rows.entry lambda.entry delta.entry) asked.level.0 asked.involution.0 asked.dart }
+    ensures { verdict_of result ≡ question_of (lent sizes rows.now lambda.now delta.now) asked.level.0 asked.involution.0 asked.dart }
 {
     let n = sizes.n;
     let h = sizes.h;

@@ -35,9 +35,9 @@ pub fn later(one: Level, other: Level) -> Level
 
 // The direct walk of a dart: at each read 5 and 8; then the dart met is on the level, or 14, or 15, or it is passed.
 fn walk(sizes: Sizes, rows: &[u16], lambda: &[u8], delta: &[u8], asked: Question) -> Reading
-    requires { Lent (lent sizes rows lambda delta) asked.level.0 × (asked.involution.0 ≤ sizes.n.0) × (asked.dart < sizes.darts) }
-    ensures answer { value_of result ≡ walk_gives (lent sizes rows.entry lambda.entry delta.entry) asked.level.0 asked.involution.0 asked.dart }
-    ensures since { stands_since result ≡ walk_since (lent sizes rows.entry lambda.entry delta.entry) asked.level.0 asked.involution.0 asked.dart }
+    requires { Lent (lent sizes rows.now lambda.now delta.now) asked.level.0 × (asked.involution.0 ≤ sizes.n.0) × (asked.dart < sizes.darts) }
+    ensures answer { value_of result ≡ walk_gives (lent sizes rows.now lambda.now delta.now) asked.level.0 asked.involution.0 asked.dart }
+    ensures since { stands_since result ≡ walk_since (lent sizes rows.now lambda.now delta.now) asked.level.0 asked.involution.0 asked.dart }
 {
     let n = sizes.n;
     let h = sizes.h;
@@ -85,8 +85,8 @@ fn walk(sizes: Sizes, rows: &[u16], lambda: &[u8], delta: &[u8], asked: Question
 
 // The neighbour of a dart at a level, on any tables, and since which level it is that.
 pub fn read(sizes: Sizes, rows: &[u16], lambda: &[u8], delta: &[u8], asked: Question) -> Reading
-    ensures answer { value_of result ≡ read_lent (lent sizes rows.entry lambda.entry delta.entry) asked.level.0 asked.involution.0 asked.dart }
-    ensures since { stands_since result ≡ read_since (lent sizes rows.entry lambda.entry delta.entry) asked.level.0 asked.involution.0 asked.dart }
+    ensures answer { value_of result ≡ read_lent (lent sizes rows.now lambda.now delta.now) asked.level.0 asked.involution.0 asked.dart }
+    ensures since { stands_since result ≡ read_since (lent sizes rows.now lambda.now delta.now) asked.level.0 asked.involution.0 asked.dart }
 {
     match questions::question(sizes, rows, lambda, delta, asked) {
         Check::Refused(r) => Reading::Refused(r),

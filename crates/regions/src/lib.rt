@@ -116,9 +116,9 @@ pub fn name_regions(
     table: &mut [u16],
     names: &mut [u16],
 ) -> Check
-    ensures verdict { verdict_of result ≡ regions_lent (lent at.sizes rows.entry lambda.entry delta.entry) table.old at.level.0 names.old }
-    ensures table_left { table.new ≡ regions_table (lent at.sizes rows.entry lambda.entry delta.entry) table.old at.level.0 names.old }
-    ensures names_left { NamingLeaves (lent at.sizes rows.entry lambda.entry delta.entry) table.old at.level.0 names.old names.new }
+    ensures verdict { verdict_of result ≡ regions_lent (lent at.sizes rows.now lambda.now delta.now) table.old at.level.0 names.old }
+    ensures table_left { table.new ≡ regions_table (lent at.sizes rows.now lambda.now delta.now) table.old at.level.0 names.old }
+    ensures names_left { NamingLeaves (lent at.sizes rows.now lambda.now delta.now) table.old at.level.0 names.old names.new }
 {
     let sizes = at.sizes;
     if !answers::row_fits(sizes.darts, names.len()) {

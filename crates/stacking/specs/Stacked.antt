@@ -1,6 +1,5 @@
 -- What climbing into blocks asks and leaves. Assumes nothing: these are definitions.
 use Rattle.std.specs.Prelude.{Bool, ◌&&◌, List, ◌++◌, ℕ, suc, ◌*◌, take, drop, eqb}
-use Rattle.std.specs.Borrow.{Bor}
 use Rattle.maps.specs.Verdict.{Verdict, if_accepted, ◌then◌}
 use Rattle.maps.specs.Sizes.{has_length}
 use Rattle.maps.specs.Table.{entry}
@@ -46,7 +45,7 @@ abbrev pub size_of : Kernel → ℕ
 size_of kernel = suc kernel.n.0 * kernel.darts
 
 -- 9 and 10 of a kernel, tested on the first of two blocks
-abbrev pub pair_tested : Kernel → Bor (List ℕ) → Bor (List ℕ) → List ℕ → Verdict
+abbrev pub pair_tested : Kernel → List ℕ → List ℕ → List ℕ → Verdict
 pair_tested kernel lambda delta pair = check_kernel (entry kernel.darts (take (size_of kernel) pair)) kernel.n.0 kernel.darts (row_of kernel lambda delta) kernel.level.0
 
 -- two blocks: the second becomes the first without the kernel, where that is accepted

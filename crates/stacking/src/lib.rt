@@ -35,10 +35,10 @@ fn double(size: usize, pair: &mut [u16])
 
 // One level more: the kernel is tested on the first of two blocks and taken out of its copy in the second. Refused, nothing is written.
 fn raise(kernel: Kernel, lambda: &[u8], delta: &[u8], next: &[u16; ROOM], pair: &mut [u16]) -> Check
-    requires pair_len { (length pair.old ≡ size_of kernel + size_of kernel) × Tested kernel.n.0 kernel.darts (row_of kernel lambda delta) (take (size_of kernel) pair.old) }
+    requires pair_len { (length pair.old ≡ size_of kernel + size_of kernel) × Tested kernel.n.0 kernel.darts (row_of kernel lambda.now delta.now) (take (size_of kernel) pair.old) }
     requires strung { Strung kernel.n.0 kernel.darts kernel.level.0 kernel.first lambda.now delta.now next.now }
-    ensures verdict { verdict_of result ≡ pair_tested kernel lambda.entry delta.entry pair.old }
-    ensures pair_left { pair.new ≡ raised kernel.n.0 kernel.darts kernel.level.0 (row_of kernel lambda.entry delta.entry) pair.old }
+    ensures verdict { verdict_of result ≡ pair_tested kernel lambda.now delta.now pair.old }
+    ensures pair_left { pair.new ≡ raised kernel.n.0 kernel.darts kernel.level.0 (row_of kernel lambda.now delta.now) pair.old }
 {
     let size = answers::entries(kernel.n, kernel.darts);
     if let Check::Refused(r) = kernels::tested(kernel, lambda, delta, next, &pair[..size]) {
@@ -51,9 +51,9 @@ fn raise(kernel: Kernel, lambda: &[u8], delta: &[u8], next: &[u16; ROOM], pair: 
 
 // Kernels 0 to h−1, in rising order, from the base in the first block; each leaves its level in the block behind.
 fn climb(sizes: Sizes, rows: &[u16], lambda: &[u8], delta: &[u8], tables: &mut [u16]) -> Check
-    requires { Base (lent sizes rows lambda delta) × (length tables.old ≡ suc sizes.h.0 * (suc sizes.n.0 * sizes.darts)) }
-    ensures verdict { verdict_of result ≡ climbs (lent sizes rows.entry lambda.entry delta.entry) }
-    ensures tables_left { tables.new ≡ climb_leaves (lent sizes rows.entry lambda.entry delta.entry) tables.old }
+    requires { Base (lent sizes rows.now lambda.now delta.now) × (length tables.old ≡ suc sizes.h.0 * (suc sizes.n.0 * sizes.darts)) }
+    ensures verdict { verdict_of result ≡ climbs (lent sizes rows.now lambda.now delta.now) }
+    ensures tables_left { tables.new ≡ climb_leaves (lent sizes rows.now lambda.now delta.now) tables.old }
 {
     let n = sizes.n;
     let darts = sizes.darts;
@@ -94,7 +94,7 @@ fn fit(sizes: Sizes, rows: usize, lambda: usize, delta: usize, tables: usize) ->
 // Numbers 5 to 8, before anything lent is written.
 fn base_and_marks(sizes: Sizes, rows: &[u16], lambda: &[u8], delta: &[u8]) -> Check
     requires { (base_sizes sizes.n.0 sizes.darts rows.now ≡ accepted) × (length lambda.now ≡ sizes.darts) × (length delta.now ≡ sizes.darts) }
-    ensures { verdict_of result ≡ base_and_marks (lent sizes rows.entry lambda.entry delta.entry) }
+    ensures { verdict_of result ≡ base_and_marks (lent sizes rows.now lambda.now delta.now) }
 {
     if let Check::Refused(r) = bases::check_base(sizes.n, sizes.darts, rows) {
         return Check::Refused(r);
@@ -104,8 +104,8 @@ fn base_and_marks(sizes: Sizes, rows: &[u16], lambda: &[u8], delta: &[u8]) -> Ch
 
 // The pyramid is checked, and its levels are left in their blocks, up to the one whose kernel is refused.
 pub fn stack(sizes: Sizes, rows: &[u16], lambda: &[u8], delta: &[u8], tables: &mut [u16]) -> Check
-    ensures verdict { verdict_of result ≡ stack_lent (lent sizes rows.entry lambda.entry delta.entry) tables.old }
-    ensures tables_left { tables.new ≡ stack_tables (lent sizes rows.entry lambda.entry delta.entry) tables.old }
+    ensures verdict { verdict_of result ≡ stack_lent (lent sizes rows.now lambda.now delta.now) tables.old }
+    ensures tables_left { tables.new ≡ stack_tables (lent sizes rows.now lambda.now delta.now) tables.old }
 {
     let all = fit(sizes, rows.len(), lambda.len(), delta.len(), tables.len());
     if let Check::Refused(r) = answers::lent(sizes, all) {

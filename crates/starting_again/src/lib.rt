@@ -26,8 +26,8 @@ fn tested(
     table: &mut [u16],
     old: &[u16],
 ) -> Check
-    ensures verdict { verdict_of result ≡ rebase_lent (lent at.sizes rows.entry lambda.entry delta.entry) table.old at.level.0 old.now }
-    ensures table_left { table.new ≡ rebase_table (lent at.sizes rows.entry lambda.entry delta.entry) table.old at.level.0 old.now }
+    ensures verdict { verdict_of result ≡ rebase_lent (lent at.sizes rows.now lambda.now delta.now) table.old at.level.0 old.now }
+    ensures table_left { table.new ≡ rebase_table (lent at.sizes rows.now lambda.now delta.now) table.old at.level.0 old.now }
 {
     let sizes = at.sizes;
     let level = at.level;
@@ -55,12 +55,12 @@ pub fn rebase(
     table: &mut [u16],
     old: &mut [u16],
 ) -> Rebased
-    ensures answer { rebased_of at.sizes result ≡ rebasing (lent at.sizes rows.entry lambda.entry delta.entry) table.old at.level.0 old.old }
-    ensures rows_left { rows.new ≡ rebase_rows (lent at.sizes rows.entry lambda.entry delta.entry) table.old at.level.0 old.old }
-    ensures lambda_left { lambda.new ≡ rebase_lambda (lent at.sizes rows.entry lambda.entry delta.entry) table.old at.level.0 old.old }
-    ensures delta_left { delta.new ≡ rebase_delta (lent at.sizes rows.entry lambda.entry delta.entry) table.old at.level.0 old.old }
-    ensures table_left { table.new ≡ rebase_table (lent at.sizes rows.entry lambda.entry delta.entry) table.old at.level.0 old.old }
-    ensures old_left { old.new ≡ rebase_old (lent at.sizes rows.entry lambda.entry delta.entry) table.old at.level.0 old.old }
+    ensures answer { rebased_of at.sizes result ≡ rebasing (lent at.sizes rows.old lambda.old delta.old) table.old at.level.0 old.old }
+    ensures rows_left { rows.new ≡ rebase_rows (lent at.sizes rows.old lambda.old delta.old) table.old at.level.0 old.old }
+    ensures lambda_left { lambda.new ≡ rebase_lambda (lent at.sizes rows.old lambda.old delta.old) table.old at.level.0 old.old }
+    ensures delta_left { delta.new ≡ rebase_delta (lent at.sizes rows.old lambda.old delta.old) table.old at.level.0 old.old }
+    ensures table_left { table.new ≡ rebase_table (lent at.sizes rows.old lambda.old delta.old) table.old at.level.0 old.old }
+    ensures old_left { old.new ≡ rebase_old (lent at.sizes rows.old lambda.old delta.old) table.old at.level.0 old.old }
 {
     if let Check::Refused(r) = tested(at, rows, lambda, delta, table, old) {
         return Rebased::Refused(r);

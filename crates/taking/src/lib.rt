@@ -30,9 +30,9 @@ pub(crate) enum Allowed {
 
 // The check of a pyramid that stands at the front of slices.
 fn check_front(sizes: Sizes, rows: &[u16], lambda: &[u8], delta: &[u8], table: &mut [u16]) -> Check
-    requires { InFront sizes rows lambda delta table }
-    ensures verdict { verdict_of result ≡ check_lent (front sizes rows.entry lambda.entry delta.entry) (front_of sizes table.entry) }
-    ensures table_left { table.new ≡ check_leaves (front sizes rows.entry lambda.entry delta.entry) (front_of sizes table.entry) ++ behind sizes table.entry }
+    requires { InFront sizes rows.now lambda.now delta.now table.old }
+    ensures verdict { verdict_of result ≡ check_lent (front sizes rows.now lambda.now delta.now) (front_of sizes table.old) }
+    ensures table_left { table.new ≡ check_leaves (front sizes rows.now lambda.now delta.now) (front_of sizes table.old) ++ behind sizes table.old }
 {
     let width = sizes.darts as usize;
     let size = answers::entries(sizes.n, sizes.darts);

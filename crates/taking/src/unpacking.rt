@@ -268,7 +268,7 @@ fn copy_all(
     lambda: &mut [u8],
     delta: &mut [u8],
 )
-    requires { Whole sizes one bytes rows lambda delta }
+    requires { Whole sizes one bytes.now rows.old lambda.old delta.old }
     ensures rows_left { Laid (table_entry bytes.now sizes.darts one) 0 (entries_of sizes) rows.old rows.new }
     ensures lambda_left { Laid (byte_from bytes.now (lambda_from sizes one)) 0 sizes.darts lambda.old lambda.new }
     ensures delta_left { Laid (byte_from bytes.now (delta_from sizes one)) 0 sizes.darts delta.old delta.new }

@@ -1,6 +1,5 @@
 -- What telling the counts of all levels asks. Assumes nothing: these are definitions.
 use Rattle.std.specs.Prelude.{◌≡◌, cond, List, ℕ, suc}
-use Rattle.std.specs.Borrow.{Bor}
 use Rattle.maps.specs.Verdict.{accepted}
 use Rattle.maps.specs.Count.{sum}
 use Rattle.maps.specs.Table.{entry, each}
@@ -21,8 +20,8 @@ abbrev pub HasLevels : ℕ → ℕ → ℕ → List ℕ → List ℕ → List �
 HasLevels n N h lambda delta tables = (rows : List ℕ) × Levels (of_parts n N h rows lambda delta) tables
 
 -- a number for each level is told, whichever base the blocks are the levels of
-abbrev pub Tells : Sizes → Bor (List ℕ) → Bor (List ℕ) → Bor (List ℕ) → (Folded → ℕ → ℕ) → Bor (List ℕ) → Type 0
-Tells s lambda delta tables value told = (rows : List ℕ) → Levels (pyramid s rows lambda.now delta.now) tables.now → told.now ≡ by_level s.h.0 (value (pyramid s rows lambda.now delta.now))
+abbrev pub Tells : Sizes → List ℕ → List ℕ → List ℕ → (Folded → ℕ → ℕ) → List ℕ → Type 0
+Tells s lambda delta tables value told = (rows : List ℕ) → Levels (pyramid s rows lambda delta) tables → told ≡ by_level s.h.0 (value (pyramid s rows lambda delta))
 
 -- the numbers of a row's survivors on level l, summed; and the largest of them
 abbrev pub row_total : ℕ → List ℕ → ℕ → List ℕ → ℕ

@@ -21,10 +21,10 @@ pub fn unfold_all(
     counts: &mut [u32],
     since: &mut [u8],
 ) -> Check
-    ensures verdict { verdict_of result ≡ unfold_all_lent (lent sizes rows.entry lambda.entry delta.entry) tables.old counts.old since.old }
-    ensures tables_left { tables.new ≡ unfold_all_tables (lent sizes rows.entry lambda.entry delta.entry) tables.old counts.old since.old }
-    ensures counts_left { counts.new ≡ unfold_all_counts (lent sizes rows.entry lambda.entry delta.entry) tables.old counts.old since.old }
-    ensures since_left { since.new ≡ unfold_all_since (lent sizes rows.entry lambda.entry delta.entry) tables.old counts.old since.old }
+    ensures verdict { verdict_of result ≡ unfold_all_lent (lent sizes rows.now lambda.now delta.now) tables.old counts.old since.old }
+    ensures tables_left { tables.new ≡ unfold_all_tables (lent sizes rows.now lambda.now delta.now) tables.old counts.old since.old }
+    ensures counts_left { counts.new ≡ unfold_all_counts (lent sizes rows.now lambda.now delta.now) tables.old counts.old since.old }
+    ensures since_left { since.new ≡ unfold_all_since (lent sizes rows.now lambda.now delta.now) tables.old counts.old since.old }
 {
     let fit = answers::both(counts.len() == LEVELS, since.len() == LEVELS);
     if let Check::Refused(r) = answers::lent(sizes, fit) {

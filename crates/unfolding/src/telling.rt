@@ -111,8 +111,8 @@ pub(crate) fn tell(
     since: &mut [u8],
 )
     requires { HasLevels sizes.n.0 sizes.darts sizes.h.0 lambda.now delta.now tables.now × (length counts.old ≡ 33) × (length since.old ≡ 33) }
-    ensures counts_left { Tells sizes lambda.entry delta.entry tables.entry total_at counts.exit }
-    ensures since_left { Tells sizes lambda.entry delta.entry tables.entry latest_at since.exit }
+    ensures counts_left { Tells sizes lambda.now delta.now tables.now total_at counts.new }
+    ensures since_left { Tells sizes lambda.now delta.now tables.now latest_at since.new }
 {
     let n = sizes.n;
     let darts = sizes.darts;

@@ -1,6 +1,5 @@
 -- The parts of a record as the functions put them into the buffer. Assumes nothing: these are definitions.
 use Rattle.std.specs.Prelude.{◌≡◌, List, [], ◌∷◌, ℕ, suc, ◌+◌, ◌*◌, ◌/◌, ◌%◌, ◌≤◌, length, get_or}
-use Rattle.std.specs.Borrow.{Bor}
 use Rattle.maps.specs.Write.{in_two_bytes}
 use Rattle.answers.specs.declared.Sizes.{Sizes}
 use Rattle.taking.specs.Parts.{Laid}
@@ -10,10 +9,10 @@ abbrev pub record_size : ℕ → ℕ → ℕ
 record_size n N = 7 + suc n * (3 + 2 * N) + 2 * (3 + N)
 
 -- sizes in range, rows, Λ and Δ of the exact lengths, and a buffer that is long enough for their record
-abbrev pub CanHold : Sizes → Bor (List ℕ) → Bor (List ℕ) → Bor (List ℕ) → Bor (List ℕ) → Type 0
+abbrev pub CanHold : Sizes → List ℕ → List ℕ → List ℕ → List ℕ → Type 0
 CanHold sizes rows lambda delta bytes =
-    (sizes.n.0 ≤ 4) × (sizes.darts ≤ 4096) × (length rows.now ≡ suc sizes.n.0 * sizes.darts) × (length lambda.now ≡ sizes.darts) × (length delta.now ≡ sizes.darts)
-    × (record_size sizes.n.0 sizes.darts ≤ length bytes.now)
+    (sizes.n.0 ≤ 4) × (sizes.darts ≤ 4096) × (length rows ≡ suc sizes.n.0 * sizes.darts) × (length lambda ≡ sizes.darts) × (length delta ≡ sizes.darts)
+    × (record_size sizes.n.0 sizes.darts ≤ length bytes)
 
 -- the head of a field with this many bytes
 abbrev pub head_of : ℕ → ℕ → List ℕ

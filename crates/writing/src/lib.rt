@@ -28,8 +28,8 @@ fn record_size(n: Dim, darts: u16) -> u16
 
 // All fields, to the front of the buffer.
 fn put_record(sizes: Sizes, rows: &[u16], lambda: &[u8], delta: &[u8], bytes: &mut [u8])
-    requires { CanHold sizes rows lambda delta bytes }
-    ensures { Put (record_of (lent sizes rows.entry lambda.entry delta.entry)) 0 bytes.old bytes.new }
+    requires { CanHold sizes rows.now lambda.now delta.now bytes.old }
+    ensures { Put (record_of (lent sizes rows.now lambda.now delta.now)) 0 bytes.old bytes.new }
 {
     let n = sizes.n;
     let darts = sizes.darts;
@@ -48,9 +48,9 @@ pub fn write_accepted(
     delta: &[u8],
     bytes: &mut [u8],
 ) -> Written
-    requires { Checked (lent sizes rows lambda delta) }
-    ensures answer { written_of result ≡ putting_of (lent sizes rows.entry lambda.entry delta.entry) bytes.old }
-    ensures bytes_left { bytes.new ≡ put_leaves (lent sizes rows.entry lambda.entry delta.entry) bytes.old }
+    requires { Checked (lent sizes rows.now lambda.now delta.now) }
+    ensures answer { written_of result ≡ putting_of (lent sizes rows.now lambda.now delta.now) bytes.old }
+    ensures bytes_left { bytes.new ≡ put_leaves (lent sizes rows.now lambda.now delta.now) bytes.old }
 {
     let size = record_size(sizes.n, sizes.darts);
     if bytes.len() < size as usize {
@@ -69,9 +69,9 @@ pub fn write(
     table: &mut [u16],
     bytes: &mut [u8],
 ) -> Written
-    ensures answer { written_of result ≡ writing (lent sizes rows.entry lambda.entry delta.entry) table.old bytes.old }
-    ensures table_left { table.new ≡ write_table (lent sizes rows.entry lambda.entry delta.entry) table.old bytes.old }
-    ensures bytes_left { bytes.new ≡ write_leaves (lent sizes rows.entry lambda.entry delta.entry) table.old bytes.old }
+    ensures answer { written_of result ≡ writing (lent sizes rows.now lambda.now delta.now) table.old bytes.old }
+    ensures table_left { table.new ≡ write_table (lent sizes rows.now lambda.now delta.now) table.old bytes.old }
+    ensures bytes_left { bytes.new ≡ write_leaves (lent sizes rows.now lambda.now delta.now) table.old bytes.old }
 {
     if let Check::Refused(r) = checking::check(sizes, rows, lambda, delta, table) {
         return Written::Refused(r);

@@ -1,6 +1,5 @@
 -- What functions of the C interface answer where a job answers more than one value. Assumes nothing: these are definitions.
 use Rattle.std.specs.Prelude.{◌≡◌, List, ℕ}
-use Rattle.std.specs.Borrow.{Bor}
 use Rattle.maps.specs.Verdict.{Verdict}
 use Rattle.maps.specs.Folded.{Folded}
 use Rattle.maps.specs.AddLevel.{add_lent, add_height}
@@ -31,6 +30,6 @@ abbrev pub unfold_for : Folded → ℕ → List ℕ → ZgUnfolding
 unfold_for f l table = unfolding_for (unfold_lent f l table) (unfold_total f l table) (unfold_since f l table)
 
 -- what taking it back answers, and leaves in the two rows, from those found
-abbrev pub ExportFor : ℕ → ℕ → Bor (List ℕ) → Bor (List ℕ) → Bor (List ℕ) → ZgRefusal → Bor (List ℕ) → Bor (List ℕ) → Type 0
+abbrev pub ExportFor : ℕ → ℕ → List ℕ → List ℕ → List ℕ → ZgRefusal → List ℕ → List ℕ → Type 0
 ExportFor n N rows oldEdges oldVertices r edges vertices =
     (answer : Verdict) × (r ≡ refusal_for answer) × ExportLeft n N rows oldEdges oldVertices answer edges vertices

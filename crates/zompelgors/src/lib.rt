@@ -63,8 +63,8 @@ pub extern "C" fn zg_check(
     delta: &[u8],
     table: &mut [u16],
 ) -> ZgRefusal
-    ensures answer { result ≡ refusal_for (check_lent (given n darts h rows.entry lambda.entry delta.entry) table.old) }
-    ensures table_left { table.new ≡ check_leaves (given n darts h rows.entry lambda.entry delta.entry) table.old }
+    ensures answer { result ≡ refusal_for (check_lent (given n darts h rows.now lambda.now delta.now) table.old) }
+    ensures table_left { table.new ≡ check_leaves (given n darts h rows.now lambda.now delta.now) table.old }
 {
     let sizes = Sizes {
         n: Dim(n),
@@ -86,10 +86,10 @@ pub extern "C" fn zg_add(
     marks: &[u8],
     table: &mut [u16],
 ) -> ZgHeight
-    ensures answer { result ≡ add_for (given n darts h rows.entry lambda.entry delta.entry) marks.now table.old }
-    ensures lambda_left { lambda.new ≡ add_lambda (given n darts h rows.entry lambda.entry delta.entry) marks.now table.old }
-    ensures delta_left { delta.new ≡ add_delta (given n darts h rows.entry lambda.entry delta.entry) marks.now table.old }
-    ensures table_left { table.new ≡ add_leaves (given n darts h rows.entry lambda.entry delta.entry) marks.now table.old }
+    ensures answer { result ≡ add_for (given n darts h rows.now lambda.old delta.old) marks.now table.old }
+    ensures lambda_left { lambda.new ≡ add_lambda (given n darts h rows.now lambda.old delta.old) marks.now table.old }
+    ensures delta_left { delta.new ≡ add_delta (given n darts h rows.now lambda.old delta.old) marks.now table.old }
+    ensures table_left { table.new ≡ add_leaves (given n darts h rows.now lambda.old delta.old) marks.now table.old }
 {
     let sizes = Sizes {
         n: Dim(n),
@@ -137,7 +137,7 @@ pub extern "C" fn zg_read(
     involution: u8,
     dart: u16,
 ) -> ZgLink
-    ensures { result ≡ read_for (given n darts h rows.entry lambda.entry delta.entry) level involution dart }
+    ensures { result ≡ read_for (given n darts h rows.now lambda.now delta.now) level involution dart }
 {
     let sizes = Sizes {
         n: Dim(n),
@@ -170,7 +170,7 @@ pub extern "C" fn zg_read_by_levels(
     involution: u8,
     dart: u16,
 ) -> ZgReading
-    ensures { result ≡ reading_for (read_lent_by_levels (given n darts h rows.entry lambda.entry delta.entry) level involution dart) }
+    ensures { result ≡ reading_for (read_lent_by_levels (given n darts h rows.now lambda.now delta.now) level involution dart) }
 {
     let sizes = Sizes {
         n: Dim(n),
@@ -202,8 +202,8 @@ pub extern "C" fn zg_unfold(
     level: u8,
     table: &mut [u16],
 ) -> ZgUnfolding
-    ensures answer { result ≡ unfold_for (given n darts h rows.entry lambda.entry delta.entry) level table.old }
-    ensures table_left { table.new ≡ unfold_leaves (given n darts h rows.entry lambda.entry delta.entry) level table.old }
+    ensures answer { result ≡ unfold_for (given n darts h rows.now lambda.now delta.now) level table.old }
+    ensures table_left { table.new ≡ unfold_leaves (given n darts h rows.now lambda.now delta.now) level table.old }
 {
     let sizes = Sizes {
         n: Dim(n),
@@ -226,10 +226,10 @@ pub extern "C" fn zg_unfold_all(
     counts: &mut [u32],
     since: &mut [u8],
 ) -> ZgRefusal
-    ensures answer { result ≡ refusal_for (unfold_all_lent (given n darts h rows.entry lambda.entry delta.entry) tables.old counts.old since.old) }
-    ensures tables_left { tables.new ≡ unfold_all_tables (given n darts h rows.entry lambda.entry delta.entry) tables.old counts.old since.old }
-    ensures counts_left { counts.new ≡ unfold_all_counts (given n darts h rows.entry lambda.entry delta.entry) tables.old counts.old since.old }
-    ensures since_left { since.new ≡ unfold_all_since (given n darts h rows.entry lambda.entry delta.entry) tables.old counts.old since.old }
+    ensures answer { result ≡ refusal_for (unfold_all_lent (given n darts h rows.now lambda.now delta.now) tables.old counts.old since.old) }
+    ensures tables_left { tables.new ≡ unfold_all_tables (given n darts h rows.now lambda.now delta.now) tables.old counts.old since.old }
+    ensures counts_left { counts.new ≡ unfold_all_counts (given n darts h rows.now lambda.now delta.now) tables.old counts.old since.old }
+    ensures since_left { since.new ≡ unfold_all_since (given n darts h rows.now lambda.now delta.now) tables.old counts.old since.old }
 {
     let sizes = Sizes {
         n: Dim(n),
@@ -325,9 +325,9 @@ pub extern "C" fn zg_write(
     table: &mut [u16],
     bytes: &mut [u8],
 ) -> ZgWritten
-    ensures answer { result ≡ written_for (writing (given n darts h rows.entry lambda.entry delta.entry) table.old bytes.old) }
-    ensures table_left { table.new ≡ write_table (given n darts h rows.entry lambda.entry delta.entry) table.old bytes.old }
-    ensures bytes_left { bytes.new ≡ write_leaves (given n darts h rows.entry lambda.entry delta.entry) table.old bytes.old }
+    ensures answer { result ≡ written_for (writing (given n darts h rows.now lambda.now delta.now) table.old bytes.old) }
+    ensures table_left { table.new ≡ write_table (given n darts h rows.now lambda.now delta.now) table.old bytes.old }
+    ensures bytes_left { bytes.new ≡ write_leaves (given n darts h rows.now lambda.now delta.now) table.old bytes.old }
 {
     let sizes = Sizes {
         n: Dim(n),
@@ -349,8 +349,8 @@ pub extern "C" fn zg_decimation(
     table: &mut [u16],
     level: u8,
 ) -> ZgFactor
-    ensures answer { result ≡ factor_for (decimating (given n darts h rows.entry lambda.entry delta.entry) table.old level) }
-    ensures table_left { table.new ≡ decimation_table (given n darts h rows.entry lambda.entry delta.entry) table.old level }
+    ensures answer { result ≡ factor_for (decimating (given n darts h rows.now lambda.now delta.now) table.old level) }
+    ensures table_left { table.new ≡ decimation_table (given n darts h rows.now lambda.now delta.now) table.old level }
 {
     let sizes = Sizes {
         n: Dim(n),
@@ -373,9 +373,9 @@ pub extern "C" fn zg_census(
     cells: &mut [u16],
     sums: &mut [i32],
 ) -> ZgRefusal
-    ensures answer { result ≡ refusal_for (census_lent (given n darts h rows.entry lambda.entry delta.entry) table.old cells.old sums.old) }
-    ensures table_left { table.new ≡ census_table (given n darts h rows.entry lambda.entry delta.entry) table.old cells.old sums.old }
-    ensures counts_left { CensusPutLeft (given n darts h rows.entry lambda.entry delta.entry) table.entry cells.entry sums.entry cells.exit sums.exit }
+    ensures answer { result ≡ refusal_for (census_lent (given n darts h rows.now lambda.now delta.now) table.old cells.old sums.old) }
+    ensures table_left { table.new ≡ census_table (given n darts h rows.now lambda.now delta.now) table.old cells.old sums.old }
+    ensures counts_left { CensusPutLeft (given n darts h rows.now lambda.now delta.now) table.old cells.old sums.old cells.new sums.new }
 {
     let sizes = Sizes {
         n: Dim(n),
@@ -389,7 +389,7 @@ pub extern "C" fn zg_census(
 #[unsafe(no_mangle)]
 pub extern "C" fn zg_import(m: u16, edges: &[u16], vertices: &[u16], rows: &mut [u16]) -> ZgRefusal
     ensures answer { result ≡ refusal_for (import_lent m edges.now vertices.now rows.old) }
-    ensures rows_left { ImportLeft m edges.entry vertices.entry rows.entry rows.exit }
+    ensures rows_left { ImportLeft m edges.now vertices.now rows.old rows.new }
 {
     refusal_as(combinatorial::import(m, edges, vertices, rows))
 }
@@ -403,7 +403,7 @@ pub extern "C" fn zg_export(
     edges: &mut [u16],
     vertices: &mut [u16],
 ) -> ZgRefusal
-    ensures { ExportFor n darts rows.entry edges.entry vertices.entry result edges.exit vertices.exit }
+    ensures { ExportFor n darts rows.now edges.old vertices.old result edges.new vertices.new }
 {
     refusal_as(combinatorial::export(Dim(n), darts, rows, edges, vertices))
 }
@@ -420,9 +420,9 @@ pub extern "C" fn zg_join(
     table: &mut [u16],
     level: u8,
 ) -> ZgHeight
-    ensures answer { result ≡ join_for (given n darts h rows.entry lambda.entry delta.entry) table.old level }
-    ensures lambda_left { lambda.new ≡ join_lambda (given n darts h rows.entry lambda.entry delta.entry) table.old level }
-    ensures table_left { table.new ≡ join_leaves (given n darts h rows.entry lambda.entry delta.entry) table.old level }
+    ensures answer { result ≡ join_for (given n darts h rows.now lambda.old delta.now) table.old level }
+    ensures lambda_left { lambda.new ≡ join_lambda (given n darts h rows.now lambda.old delta.now) table.old level }
+    ensures table_left { table.new ≡ join_leaves (given n darts h rows.now lambda.old delta.now) table.old level }
 {
     let sizes = Sizes {
         n: Dim(n),
@@ -448,12 +448,12 @@ pub extern "C" fn zg_rebase(
     level: u8,
     old: &mut [u16],
 ) -> ZgBase
-    ensures answer { result ≡ base_for (rebasing (given n darts h rows.entry lambda.entry delta.entry) table.old level old.old) }
-    ensures rows_left { rows.new ≡ rebase_rows (given n darts h rows.entry lambda.entry delta.entry) table.old level old.old }
-    ensures lambda_left { lambda.new ≡ rebase_lambda (given n darts h rows.entry lambda.entry delta.entry) table.old level old.old }
-    ensures delta_left { delta.new ≡ rebase_delta (given n darts h rows.entry lambda.entry delta.entry) table.old level old.old }
-    ensures table_left { table.new ≡ rebase_table (given n darts h rows.entry lambda.entry delta.entry) table.old level old.old }
-    ensures old_left { old.new ≡ rebase_old (given n darts h rows.entry lambda.entry delta.entry) table.old level old.old }
+    ensures answer { result ≡ base_for (rebasing (given n darts h rows.old lambda.old delta.old) table.old level old.old) }
+    ensures rows_left { rows.new ≡ rebase_rows (given n darts h rows.old lambda.old delta.old) table.old level old.old }
+    ensures lambda_left { lambda.new ≡ rebase_lambda (given n darts h rows.old lambda.old delta.old) table.old level old.old }
+    ensures delta_left { delta.new ≡ rebase_delta (given n darts h rows.old lambda.old delta.old) table.old level old.old }
+    ensures table_left { table.new ≡ rebase_table (given n darts h rows.old lambda.old delta.old) table.old level old.old }
+    ensures old_left { old.new ≡ rebase_old (given n darts h rows.old lambda.old delta.old) table.old level old.old }
 {
     let sizes = Sizes {
         n: Dim(n),

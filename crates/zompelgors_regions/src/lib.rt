@@ -55,9 +55,9 @@ pub extern "C" fn zg_regions(
     level: u8,
     names: &mut [u16],
 ) -> ZgRefusal
-    ensures answer { result ≡ refusal_for (regions_lent (given n darts h rows.entry lambda.entry delta.entry) table.old level names.old) }
-    ensures table_left { table.new ≡ regions_table (given n darts h rows.entry lambda.entry delta.entry) table.old level names.old }
-    ensures names_left { NamingLeaves (given n darts h rows.entry lambda.entry delta.entry) table.old level names.old names.new }
+    ensures answer { result ≡ refusal_for (regions_lent (given n darts h rows.now lambda.now delta.now) table.old level names.old) }
+    ensures table_left { table.new ≡ regions_table (given n darts h rows.now lambda.now delta.now) table.old level names.old }
+    ensures names_left { NamingLeaves (given n darts h rows.now lambda.now delta.now) table.old level names.old names.new }
 {
     let sizes = Sizes {
         n: Dim(n),
