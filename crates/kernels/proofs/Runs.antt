@@ -6,15 +6,15 @@ use Prim.Native.Nat.{ℕ, suc, ◌+◌, ◌-◌, ◌≤◌, ◌<◌}
 use native.Mathlib.Omega.{arith}
 use lib.ListN.{length}
 use lib.Dec.{eqb, ltb}
-use borrow.Author.Tests.{eq-eqb, eqb-true, eqb-false, ltb-true, ltb-false, lt-ltb, le-ltb}
-use Rattle.maps.specs.Verdict.{Verdict, accepted, refused, when, scan, ◌then◌}
-use Rattle.maps.specs.Mark.{is_mark, stay, between, has_beyond}
+use borrow.Author.Tests.{eq-eqb, eqb-true, eqb-false, ltb-true, ltb-false, le-ltb}
+use Rattle.maps.specs.Verdict.{accepted, refused, when}
+use Rattle.maps.specs.Mark.{is_mark, between, has_beyond}
 use Rattle.maps.specs.Table.{entry, each}
 use Rattle.maps.specs.Check.{differs, at9, at10, check9, check10, check_kernel}
 use Rattle.laws.proofs.Verdicts.{scan_all}
 use Rattle.kernels.specs.Strings.{kernel_row, First, Strung}
 use Rattle.kernels.specs.Ready.{Tested}
-use Rattle.kernels.specs.Walked.{other_row, nine, ten, Walk, Nine, Ten, Together, Alike, Run, Commuting}
+use Rattle.kernels.specs.Walked.{other_row, ten, Nine, Ten, Together, Alike, Run, Commuting}
 use Rattle.kernels.proofs.Strung.{in_kernel_lem, mark_is}
 use Rattle.kernels.proofs.Tests.{at_nine, walk_next, walk_start, walk_all, nine_free, ten_free}
 

@@ -1,14 +1,11 @@
 -- A kernel tested or relinked in part, along its string: what holds at a dart on the way. Assumes nothing: these are definitions.
-use Rattle.std.specs.Prelude.{◌≡◌, ◌⊎◌, Bool, true, false, cond, ◌&&◌, not, List, ℕ, suc, ◌+◌, ◌≤◌, ◌<◌, length, eqb, ltb}
+use Rattle.std.specs.Prelude.{◌≡◌, Bool, true, false, cond, ◌&&◌, not, List, ℕ, suc, ◌+◌, ◌≤◌, ◌<◌, length, eqb, ltb}
 use Rattle.maps.specs.Verdict.{Verdict, accepted, scan}
-use Rattle.maps.specs.Count.{sum}
 use Rattle.maps.specs.Mark.{is_mark, between, has_beyond}
-use Rattle.maps.specs.Removal.{marked, turns_from, removal}
 use Rattle.maps.specs.Table.{entry, each}
 use Rattle.maps.specs.Check.{differs, at9, at10}
-use Rattle.maps.specs.Explicit.{present, There}
-use Rattle.kernels.specs.Strings.{kernel_row, First, Marks, Strung}
-use Rattle.kernels.specs.Ready.{Tested, Ready, relinked, first_of_link}
+use Rattle.kernels.specs.Strings.{kernel_row, First, Marks}
+use Rattle.kernels.specs.Ready.{Tested}
 
 -- the k-th row of a map, from 0 on, without the first row of mark m
 unfoldable pub other_row : ℕ → ℕ → ℕ

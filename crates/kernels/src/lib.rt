@@ -1,5 +1,6 @@
 // One kernel, tested and removed in place on an explicit level. Each function says what it asks of its caller: the level is a valid map, and the kernel's darts are strung.
 #![tactic(auto)]
+
 mod fits; // fits.rt: numbers 9 and 10 with a yes or no
 mod removing; // removing.rt: a kernel removed in place
 mod strings; // strings.rt: the darts strung by kernel, and what is read of one

@@ -1,0 +1,15 @@
+-- `kernels::step` meets its contract. Assumes nothing.
+use mathlib.Core.Path.{◌≡◌}
+use Rattle.maps.specs.Verdict.{accepted}
+use Rattle.maps.specs.Table.{entry}
+use Rattle.maps.specs.Check.{check_kernel}
+use Rattle.answers.proofs.Refusals.{told}
+use Rattle.kernels.specs.Strings.{kernel_row}
+use Rattle.kernels.proofs.Steps.{step_ready}
+use Rattle.kernels.proofs.step.Goals as goal
+
+pub remove-requires : goal.remove-requires
+remove-requires c =
+    let passed : let a = c.args in accepted ≡ check_kernel (entry a.kernel.darts a.table.now) a.kernel.n.0 a.kernel.darts (kernel_row a.lambda.now a.delta.now a.kernel.level.0) a.kernel.level.0 =
+    told c.tested.ensures c.in_default.is in
+    let s = c in record { ready = step_ready s.requires.tested _ (passed); strung = s.requires.strung }
