@@ -1,5 +1,6 @@
 // Check a base, or an explicit level: numbers 1, 2, 4, 5, 6 and 7, with the first place that is refused. Assumes nothing.
 #![tactic(auto)]
+
 ghost use Rattle.std.specs.Prelude.{◌≡◌, true, false, ℕ, ◌+◌, ◌<◌, ◌≤◌, length, get_or};
 ghost use Rattle.maps.specs.Verdict.{accepted};
 ghost use Rattle.maps.specs.Table.{entry};

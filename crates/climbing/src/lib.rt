@@ -1,5 +1,6 @@
 // Kernels climbed one after the other, each on its own level. A climb begins with the strings of the darts by kernel and the base in the table, and goes on from the level that the table holds. The strings, 8,704 bytes, are all the local memory. Each function says what it asks of its caller: base and marks that have passed 1 to 8.
 #![tactic(auto)]
+
 ghost use Rattle.std.specs.Prelude.{◌≡◌, ◌≤◌, length};
 ghost use Rattle.maps.specs.Table.{each};
 ghost use Rattle.answers.specs.Numbers.{verdict_of};

@@ -1,5 +1,6 @@
 // The mark row of a level, read back out of Λ and Δ into a lent row. Assumes nothing.
 #![tactic(auto)]
+
 ghost use Rattle.std.specs.Prelude.{◌≡◌, cond, ◌&&◌, length, eqb, ltb};
 ghost use Rattle.maps.specs.Mark.{stay};
 ghost use Rattle.maps.specs.Folded.{marks};

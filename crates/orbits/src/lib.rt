@@ -1,5 +1,6 @@
 // The orbit of a dart, by rows that are chosen for each dart: a search with a queue, in which each dart stands once. Assumes nothing.
 #![tactic(auto)]
+
 ghost use Rattle.std.specs.Prelude.{◌≡◌, true, false, not, ℕ, ◌≤◌, ◌<◌, eqb};
 ghost use Rattle.maps.specs.Parts.{besides};
 ghost use Rattle.maps.specs.Table.{entry};

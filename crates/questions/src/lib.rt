@@ -1,5 +1,6 @@
 // What is tested before either reading of a neighbour. Assumes nothing.
 #![tactic(auto)]
+
 ghost use Rattle.std.specs.Prelude.{◌≡◌};
 ghost use Rattle.maps.specs.Read.{question as question_of};
 ghost use Rattle.answers.specs.Numbers.{verdict_of};

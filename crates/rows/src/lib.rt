@@ -1,5 +1,6 @@
 // A row handed back: a part of the base rows or of an unfolded level, and no copy. Assumes nothing.
 #![tactic(auto)]
+
 ghost use Rattle.std.specs.Prelude.{◌≡◌};
 ghost use Rattle.maps.specs.Row.{row_lent, row_part};
 ghost use Rattle.answers.specs.Numbers.{verdict_of};
