@@ -1,7 +1,7 @@
 -- The verdict of an add and what it leaves, taken apart as the code tests it. Assumes nothing.
 use mathlib.Core.Path.{◌≡◌, refl}
 use mathlib.Core.Bool.{Bool, true, cond, ◌&&◌}
-use mathlib.Core.List.{List, []}
+use mathlib.Core.List.{List}
 use Prim.Native.Nat.{ℕ, suc, ◌+◌, ◌*◌, ◌<◌}
 use native.Mathlib.Numerals.{add-one}
 use lib.ListN.{length}
@@ -11,7 +11,7 @@ use Rattle.maps.specs.Verdict.{Verdict, accepted, ◌then◌}
 use Rattle.maps.specs.Sizes.{has_length}
 use Rattle.maps.specs.Mark.{is_mark, stay}
 use Rattle.maps.specs.Table.{entry, each, listed}
-use Rattle.maps.specs.Folded.{addΛ, addΔ, level_table, of_parts, Folded}
+use Rattle.maps.specs.Folded.{addΛ, addΔ, level_table, Folded}
 use Rattle.maps.specs.MarkRow.{Row}
 use Rattle.maps.specs.AddLevel.{refused_mark, at_row8, number20, add_lent, add_height, add_lambda, add_delta, add_leaves}
 use Rattle.laws.proofs.Verdicts.{then_accepted, when_accepted, scan_accepted, then_two}

@@ -1,9 +1,9 @@
 -- The parts of an add's verdict. Assumes nothing: these are definitions.
-use Rattle.std.specs.Prelude.{◌&&◌, List, [], ℕ, suc, ◌*◌}
+use Rattle.std.specs.Prelude.{◌&&◌, List, ℕ, suc, ◌*◌}
 use Rattle.maps.specs.Verdict.{Verdict, ◌then◌, scan}
 use Rattle.maps.specs.Sizes.{has_length}
 use Rattle.maps.specs.Table.{each}
-use Rattle.maps.specs.Folded.{marks, addΛ, addΔ, level, level_table, Folded, base, lambda_of, delta_of, of_parts}
+use Rattle.maps.specs.Folded.{marks, addΛ, addΔ, level, level_table, Folded, base, lambda_of, delta_of}
 use Rattle.maps.specs.Check.{check_kernel}
 use Rattle.maps.specs.CheckPyramid.{left_behind}
 use Rattle.maps.specs.AddLevel.{at_row8, number20}

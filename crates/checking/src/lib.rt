@@ -1,5 +1,6 @@
 // Check a pyramid, and add a level. Assumes nothing.
 #![tactic(auto)]
+
 mod pyramid; // pyramid.rt: a whole pyramid, and a level added
 
 pub use pyramid::{Height, add, check, early};

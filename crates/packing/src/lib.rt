@@ -1,5 +1,6 @@
 // The survivors of a level, packed to the front of rows and marks, in place and front to back: an entry is written at or before the place where it was read.
 #![tactic(auto)]
+
 ghost use Rattle.std.specs.Prelude.{◌≡◌, ℕ, suc, ◌+◌, ◌-◌, ◌*◌, ◌≤◌, ◌<◌, length};
 ghost use Rattle.maps.specs.Mark.{stay};
 ghost use Rattle.maps.specs.Table.{each, absent};

@@ -1,7 +1,7 @@
 -- The job's tests in two parts, the first as `asked` makes them. Assumes nothing.
 use mathlib.Core.Path.{◌≡◌}
 use mathlib.Core.Bool.{◌&&◌}
-use mathlib.Core.List.{List, []}
+use mathlib.Core.List.{List}
 use Prim.Native.Nat.{ℕ}
 use Rattle.maps.specs.Table.{each}
 use Rattle.maps.specs.Verdict.{◌then◌, scan}

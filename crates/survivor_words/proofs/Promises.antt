@@ -1,7 +1,7 @@
 -- What the jobs' definitions promise. Assumes nothing.
 use mathlib.Core.Path.{◌≡◌}
 use mathlib.Core.Bool.{◌&&◌}
-use mathlib.Core.List.{List, []}
+use mathlib.Core.List.{List}
 use Prim.Native.Nat.{ℕ}
 use Rattle.maps.specs.Verdict.{accepted, scan}
 use Rattle.maps.specs.Sizes.{number11, has_length}
