@@ -2,22 +2,21 @@
 use mathlib.Core.Path.{◌≡◌, refl, sym, ap, ◌∙◌}
 use mathlib.Core.Bool.{Bool, true, false, cond, ◌&&◌, not, true≢false}
 use mathlib.Core.List.{List}
-use Prim.Native.Nat.{ℕ, suc, ◌+◌, ◌*◌, ◌≤◌, ◌<◌}
+use Prim.Native.Nat.{ℕ, ◌+◌, ◌*◌, ◌≤◌, ◌<◌}
 use native.Mathlib.Omega.{arith}
 use lib.ListN.{set}
 use lib.Dec.{eqb, ltb}
 use borrow.Author.Tests.{eqb-true, eqb-false, eq-eqb, ltb-true, ltb-false, lt-ltb, le-ltb, not-true}
 use Rattle.maps.specs.Map.{Involutions}
 use Rattle.maps.specs.Mark.{is_mark, between}
-use Rattle.maps.specs.Removal.{marked}
-use Rattle.maps.specs.Table.{entry, each, absent}
+use Rattle.maps.specs.Table.{entry, each}
 use Rattle.maps.specs.UnfoldAll.{counts_from, counts_of}
 use Rattle.maps.specs.Explicit.{present, There}
 use Rattle.laws.proofs.Verdicts.{and_both}
 use Rattle.laws.proofs.Marks.{mark_rows}
 use Rattle.kernels.specs.Strings.{First, Along}
 use Rattle.kernels.specs.Ready.{Place, Ready, Followed, TableIs}
-use Rattle.kernels.proofs.Places.{place, table_same, table_set}
+use Rattle.kernels.proofs.Places.{table_same, table_set}
 use Rattle.carrying.specs.Carried.{leads, Led, counted}
 use Rattle.carrying.proofs.Local.{counts_local}
 

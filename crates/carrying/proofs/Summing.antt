@@ -1,5 +1,5 @@
 -- The counts summed along the links by which a removal goes on. Assumes nothing.
-use mathlib.Core.Path.{◌≡◌, refl, sym, ap, ◌∙◌}
+use mathlib.Core.Path.{◌≡◌, refl, sym, ◌∙◌}
 use mathlib.Core.Bool.{Bool, true, false, ◌&&◌}
 use mathlib.Core.List.{List}
 use Prim.Native.Nat.{ℕ, suc, ◌+◌, ◌-◌, ◌*◌, ◌≤◌, ◌<◌}
@@ -15,7 +15,7 @@ use Rattle.laws.proofs.Marks.{mark_byte, mark_rows}
 use Rattle.kernels.specs.Strings.{kernel_row, Marks}
 use Rattle.kernels.specs.Ready.{Followed}
 use Rattle.kernels.proofs.Strung.{in_kernel_lem, mark_is}
-use Rattle.carrying.proofs.Local.{counts_none, counts_stay, counts_on_lem}
+use Rattle.carrying.proofs.Local.{counts_stay, counts_on_lem}
 
 -- a way by row i from start stands after so many turns at dart e of kernel l, with so much summed
 pub record Summing (N l : ℕ) (lambda delta block reads : List ℕ) (i start sum turns e : ℕ) : Type 0 where

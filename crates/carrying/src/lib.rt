@@ -1,5 +1,6 @@
 // A number for each link of a level, carried along where a kernel is taken out: the counts, and the levels since which. The block of the level stands as it is.
 #![tactic(auto)]
+
 ghost use Rattle.std.specs.Prelude.{◌≡◌, ◌&&◌, ◌+◌, ◌*◌, ◌<◌, ◌≤◌, length, set, eqb};
 ghost use Rattle.maps.specs.Mark.{between as between_of};
 ghost use Rattle.maps.specs.Table.{entry, each};

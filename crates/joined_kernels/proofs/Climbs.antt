@@ -4,10 +4,10 @@ use mathlib.Core.List.{List}
 use Prim.Native.Nat.{ℕ, suc, ◌-◌, ◌≤◌, ◌<◌}
 use native.Mathlib.Omega.{arith}
 use lib.ListN.{length}
-use Rattle.maps.specs.Verdict.{Verdict, accepted, refused, ◌then◌, scan}
+use Rattle.maps.specs.Verdict.{Verdict, accepted, refused, scan}
 use Rattle.maps.specs.Map.{Involutions}
 use Rattle.maps.specs.Mark.{between}
-use Rattle.maps.specs.Table.{entry, each, listed}
+use Rattle.maps.specs.Table.{entry, each}
 use Rattle.maps.specs.Folded.{refused_marks, marks, level, level_table, Folded, base, lambda_of, delta_of}
 use Rattle.maps.specs.Pyramid.{Pyramid}
 use Rattle.maps.specs.Check.{leaves, not_fitting, at9, at10, check9, check10, check_kernel, kernel_at, check_kernels}
@@ -24,7 +24,7 @@ use Rattle.answers.proofs.Refusals.{refused_then, refusal_keeps}
 use Rattle.kernels.specs.Strings.{kernel_row, Linked, Strung}
 use Rattle.kernels.specs.Ready.{Tested}
 use Rattle.climbing.specs.Climb.{Base, kernel_of, climbs, climb_leaves, climbs_to, climb_to_leaves, Climbed}
-use Rattle.climbing.proofs.Verdicts.{Says, passed, says, says_when, says_scan, kernel_late, late_leaves}
+use Rattle.climbing.proofs.Verdicts.{Says, says, says_when, says_scan, kernel_late, late_leaves}
 use Rattle.climbing.proofs.Steps.{kernel_is, climb_tested, climb_strung}
 use Rattle.joined_kernels.specs.Climbed.{joined_verdict, climbs_joined, climb_joined_leaves, joined_of}
 

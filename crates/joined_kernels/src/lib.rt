@@ -1,5 +1,6 @@
 // Two kernels that follow each other, joined: Λ then, and the joined kernel tested on the way up. Assumes nothing but what is asked.
 #![tactic(auto)]
+
 ghost use Rattle.std.specs.Prelude.{◌≡◌, cond, suc, ◌-◌, ◌<◌, length, ltb};
 ghost use Rattle.maps.specs.Table.{each, listed};
 ghost use Rattle.maps.specs.Join.{joinΛ};

@@ -21,8 +21,8 @@ use Rattle.maps.specs.Regions.{Region, itself, along, over, RegionName, Named, a
 use Rattle.laws.proofs.Verdicts.{when_accepted, scan_accepted, and_both}
 use Rattle.laws.proofs.Marks.{Kind, removes, shrinks, kind, is_removal, removed_rows}
 use Rattle.laws.proofs.MarkRows.{taken_is, marks_at_lem, allowed_small}
-use Rattle.facts.proofs.AcceptedWalks.{level-valid, Leads, trail_leads}
-use Rattle.orbits.proofs.OrbitLaws.{orbit-back}
+use Rattle.facts.proofs.AcceptedWalks.{level_valid, Leads, trail_leads}
+use Rattle.orbits.proofs.OrbitLaws.{orbit_back}
 use Rattle.regions.specs.Searches.{region_rows}
 use Rattle.regions.proofs.Regions.{region_join, name_unique, region_suc, region_orbit, orbit_region}
 
@@ -98,7 +98,7 @@ module _ (a : Involutions) (n N h : ℕ) (Λ Δ : ℕ → ℕ) (y : Pyramid a n 
     pub region_back : (x z : ℕ) → x < N → Region a n Λ Δ l x z → Region a n Λ Δ l z x
     region_back x z lx r =
         let o = region_orbit a n Λ Δ l N inside (region_rows n Λ Δ l) (λ j d lj ld. refl) x z lx r in
-        orbit_region a n Λ Δ l N inside (region_rows n Λ Δ l) (λ j d lj ld. refl) z x (region_inside x z lx r) (orbit-back a n (region_rows n Λ Δ l) (λ d. d < N) region_two_way x z lx o)
+        orbit_region a n Λ Δ l N inside (region_rows n Λ Δ l) (λ j d lj ld. refl) z x (region_inside x z lx r) (orbit_back a n (region_rows n Λ Δ l) (λ d. d < N) region_two_way x z lx o)
       where
         region_inside : (x z : ℕ) → x < N → Region a n Λ Δ l x z → z < N
         region_inside x _ lx itself = lx
@@ -156,7 +156,7 @@ module _ (a : Involutions) (n N h : ℕ) (Λ Δ : ℕ → ℕ) (y : Pyramid a n 
     cell_region x _ o cell_itself = (o, itself)
     cell_region x _ o (onward d j c lj ne) =
         let r = cell_region x d o c in
-        ((level-valid a n N h Λ Δ y l k).inside j d lj r.0, region_join a n Λ Δ l x d (level a n N (marks h Λ Δ) l j d) r.1 (neighbour_region d j r.0 (omega arith)))
+        ((level_valid a n N h Λ Δ y l k).inside j d lj r.0, region_join a n Λ Δ l x d (level a n N (marks h Λ Δ) l j d) r.1 (neighbour_region d j r.0 (omega arith)))
 
     module _ (names : List ℕ) (row : Named a n N Λ Δ l names) where
       -- in a name row two darts have one name exactly if one reaches the other

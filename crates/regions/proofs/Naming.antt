@@ -14,7 +14,7 @@ use Rattle.maps.specs.Orbit.{Orbit, here}
 use Rattle.maps.specs.Table.{entry, each}
 use Rattle.orbits.specs.Choices.{chosen}
 use Rattle.orbits.specs.Orbits.{Closed, Ready, Added, Queued}
-use Rattle.orbits.proofs.OrbitLaws.{orbit-join, closed-orbit, orbit-present, orbit-back}
+use Rattle.orbits.proofs.OrbitLaws.{orbit_join, closed_orbit, orbit_present, orbit_back}
 use Rattle.regions.specs.Searches.{Leads, LowestIn, Lowests, Given}
 
 -- names given to the darts of a queue, one after the other
@@ -67,32 +67,32 @@ module _ (n N : ℕ) (rows choices : List ℕ) where
       naming_ready = record {
         rows = p.rows;
         first = lk;
-        inside = λ d j o lj u. p.two_way.inside j d lj (orbit-present (entry N rows) n (chosen choices) (λ d. d < N) p.two_way k d lk o) u;
+        inside = λ d j o lj u. p.two_way.inside j d lj (orbit_present (entry N rows) n (chosen choices) (λ d. d < N) p.two_way k d lk o) u;
         closed = s.closed;
       }
 
       module _ (out : within k ≡ false) where
         back : (d : ℕ) → Orbit (entry N rows) n (chosen choices) k d → Orbit (entry N rows) n (chosen choices) d k
-        back d o = orbit-back (entry N rows) n (chosen choices) (λ d. d < N) p.two_way k d lk o
+        back d o = orbit_back (entry N rows) n (chosen choices) (λ d. d < N) p.two_way k d lk o
 
         -- it is the lowest of its orbit, since a lower one would have reached it
         first_lowest : (d : ℕ) → Orbit (entry N rows) n (chosen choices) k d → k ≤ d
         first_lowest d o = go (ltb d k) refl
           where
             go : (b : Bool) → ltb d k ≡ b → k ≤ d
-            go true q = absurd (true≢false (sym (closed-orbit (entry N rows) n (chosen choices) within s.closed d k (s.passed d (ltb-true d k q)) (back d o)) ∙ out))
+            go true q = absurd (true≢false (sym (closed_orbit (entry N rows) n (chosen choices) within s.closed d k (s.passed d (ltb-true d k q)) (back d o)) ∙ out))
             go false q = ltb-false d k q
 
         -- and of each dart that it reaches
         orbit_lowest : (d : ℕ) → Orbit (entry N rows) n (chosen choices) k d → LowestIn (entry N rows) n (chosen choices) d k
-        orbit_lowest d o = record { reached = back d o; least = λ e q. first_lowest e (orbit-join (entry N rows) n (chosen choices) k d e o q) }
+        orbit_lowest d o = record { reached = back d o; least = λ e q. first_lowest e (orbit_join (entry N rows) n (chosen choices) k d e o q) }
 
         -- so it is given as a name to the darts that the search adds
         pub naming_add : (within' : ℕ → Bool) (queue : List ℕ) (end : ℕ) (names' : List ℕ) → Added (entry N rows) n (chosen choices) k within within' → Queued N within within' queue 0 end → Given k queue end names names' → Naming n N rows choices within' names' (k + 1)
         naming_add within' queue end names' w queued g = record {
           long = g.long ∙ s.long;
           closed = w.closed;
-          inside = λ d h. elim (w.only d h) [ inl o ↦ s.inside d o | inr o ↦ orbit-present (entry N rows) n (chosen choices) (λ d. d < N) p.two_way k d lk o ];
+          inside = λ d h. elim (w.only d h) [ inl o ↦ s.inside d o | inr o ↦ orbit_present (entry N rows) n (chosen choices) (λ d. d < N) p.two_way k d lk o ];
           passed = below_more (λ d. within' d ≡ true) k (λ d l. w.kept d (s.passed d l)) (w.whole k here);
           named = λ d h. go d h (within d) refl;
         }

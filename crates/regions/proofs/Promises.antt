@@ -11,7 +11,7 @@ use Rattle.maps.specs.CheckPyramid.{check_lent, check_with}
 use Rattle.maps.specs.Regions.{Named, at23, regions_lent, RegionsLeave}
 use Rattle.laws.proofs.Verdicts.{then_accepted, when_accepted}
 use Rattle.maps.specs.Folded.{Folded, base, lambda_of, delta_of}
-use Rattle.facts.proofs.AcceptedWalks.{check-accepts}
+use Rattle.facts.proofs.AcceptedWalks.{check_accepts}
 use Rattle.regions.proofs.Facts.{RegionFacts, region_facts}
 
 module _ (P : Folded) (table : List ℕ) (l : ℕ) (names left : List ℕ) where
@@ -33,7 +33,7 @@ module _ (P : Folded) (table : List ℕ) (l : ℕ) (names left : List ℕ) where
       let s = then_accepted (sizes n N h) (number4 (has_length names N) then check_lent P table) r.0 in
       let t = then_accepted (number4 (has_length names N)) (check_lent P table) s.1 in
       let u = then_accepted (number11 h l 0 0) unmarked r.1 in
-      let y = (check-accepts P table t.1).pyramid in
+      let y = (check_accepts P table t.1).pyramid in
       let k = ltb-false h l (when_accepted (ltb h l) 11 l 0 0 u.0) in
       record { pyramid = y; plain = u.1; level = k; named = row; facts = region_facts (base P) n N h (lambda_of P) (delta_of P) y u.1 l k left row }
 

@@ -12,7 +12,7 @@ use Rattle.maps.specs.Accepted.{Accepted}
 use Rattle.maps.specs.Regions.{at23, regions_lent, regions_table, RegionsLeave}
 use Rattle.laws.proofs.Lent.{then_stops, with_checks, with_leaves, with_other, with_found}
 use Rattle.maps.specs.Folded.{Folded, base, lambda_of, delta_of}
-use Rattle.facts.proofs.AcceptedWalks.{check-accepts}
+use Rattle.facts.proofs.AcceptedWalks.{check_accepts}
 use Rattle.answers.specs.Numbers.{refusal_of}
 use Rattle.answers.specs.Lent.{lent_of}
 use Rattle.answers.specs.declared.Refusal.{Refusal}
@@ -69,7 +69,7 @@ module _ (P : Folded) (table : List ℕ) (l : ℕ) (names : List ℕ) where
 
     module _ (e : accepted ≡ check_lent P table) where
       pub accepts : Accepted P table
-      accepts = check-accepts P table (sym e)
+      accepts = check_accepts P table (sym e)
 
       after : (r : Refusal) → refusal_of r ≡ (number11 h l 0 0 then scan N (at23 (delta_of P))) → Answers (refusal_of r) (check_leaves P table) names
       after r f = let v = refused_second verdict _ _ tests r e f in (v, left, refused_leaves r v)

@@ -9,7 +9,7 @@ use lib.Dec.{eqb, leb, ltb}
 use borrow.Author.Tests.{eqb-true}
 use Rattle.maps.specs.Verdict.{Verdict, accepted, ◌then◌}
 use Rattle.maps.specs.Sizes.{number1, number2, number3, number4, sizes, has_length}
-use Rattle.maps.specs.Folded.{Folded, base, lambda_of, delta_of}
+use Rattle.maps.specs.Folded.{Folded}
 use Rattle.maps.specs.Check.{check_pyramid}
 use Rattle.maps.specs.CheckPyramid.{table_at}
 use Rattle.maps.specs.UnfoldAll.{stacked, blocks_left}

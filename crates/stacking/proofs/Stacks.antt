@@ -6,8 +6,8 @@ use Prim.Native.Nat.{ℕ, zero, suc, ◌+◌, ◌-◌, ◌*◌, ◌≤◌, ◌<�
 use native.Mathlib.Nat.{suc-mul, mul-le-mul_right}
 use native.Mathlib.Numerals.{add-one}
 use native.Mathlib.Omega.{arith}
-use lib.ListN.{length, get_or, set, take, drop, length-append, length-drop, get_or-append, take-append-drop}
-use lib.Seq.{get_or-take, take-take, take_all, drop-drop, take_at, drop_at, drop-length, drop-append-add, drop-append_seam, drop-append-le, take-append-le, length-take-le, paste, paste-zero, paste-suc, length-paste}
+use lib.ListN.{length, get_or, set, take, drop, length-append, length-drop, get_or-append}
+use lib.Seq.{get_or-take, take-take, take_all, drop-drop, take_at, drop_at, drop-length, drop-append-add, drop-append_seam, drop-append-le, take-append-le, length-take-le, paste, paste-suc}
 use lib.Dec.{eqb}
 use borrow.Author.Tests.{eqb-true, eqb-false}
 use borrow.Rule.Slice.PartMut.{put_mid, put_same}

@@ -1,5 +1,6 @@
 // The levels of a pyramid climbed one after the other, each in a block of its own. The strings of the darts by kernel, 8,704 bytes, are all the local memory here.
 #![tactic(auto)]
+
 ghost use Rattle.std.specs.Prelude.{◌≡◌, ◌++◌, suc, ◌+◌, ◌*◌, length, take};
 ghost use Rattle.maps.specs.Verdict.{accepted};
 ghost use Rattle.answers.specs.Pyramid.{lent};

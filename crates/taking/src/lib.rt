@@ -1,5 +1,6 @@
 // Take a record: it is unpacked and its pyramid checked, in one job; its rows have two bytes an entry, or, in an old record, one or two. Assumes nothing: any bytes at all are answered.
 #![tactic(auto)]
+
 mod copying; // copying.rt: a field's body into a lent slice
 mod unpacking; // unpacking.rt: the fields of a record, tested and copied
 

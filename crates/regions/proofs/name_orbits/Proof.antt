@@ -6,7 +6,7 @@ use native.Mathlib.Omega.{arith}
 use borrow.Author.Rules.{rules}
 use borrow.Author.Tests.{not-true, not-false}
 use Rattle.orbits.specs.Search.{has, Room}
-use Rattle.orbits.proofs.OrbitLaws.{none, none_has, none-room, queue-empty}
+use Rattle.orbits.proofs.OrbitLaws.{none, none_has, none_room, queue_empty}
 use Rattle.regions.proofs.Naming.{Naming, naming_none, naming_all, naming_pass, naming_ready, naming_add}
 use Rattle.regions.proofs.name_orbits.Statement.{statement}
 use Rattle.regions.proofs.name_orbits.Tie as tie
@@ -22,7 +22,7 @@ loop-holds : tie.Need-loop-init invariant-loop decreases-loop
 loop-holds c =
     let s = c.before.before in
     let a = s.args in
-    (zero-le, naming_none a.n.0 a.darts a.rows.now a.choices.now (has none) a.names.now (none_has 4096) s.requires.1, none-room)
+    (zero-le, naming_none a.n.0 a.darts a.rows.now a.choices.now (has none) a.names.now (none_has 4096) s.requires.1, none_room)
 
 cast-at : tie.Need-overflow-cast-at invariant-loop decreases-loop
 cast-at c = search rules
@@ -36,7 +36,7 @@ orbit-requires c κs =
     let l = inner.before.loop in
     let s = inner.before.before.before.before in
     let a = s.args in
-    (naming_ready a.n.0 a.darts a.rows.now a.choices.now (has l.reached) l.names l.start l.invariant.1 s.requires.0 inner.loop-test.true, (queue-empty l.invariant.2, s.requires.2))
+    (naming_ready a.n.0 a.darts a.rows.now a.choices.now (has l.reached) l.names l.start l.invariant.1 s.requires.0 inner.loop-test.true, (queue_empty l.invariant.2, s.requires.2))
 
 give-requires : tie.Need-give-requires invariant-loop decreases-loop
 give-requires c κs =

@@ -2,7 +2,7 @@
 use mathlib.Core.Path.{sym, ◌∙◌}
 use native.Mathlib.Omega.{arith}
 use borrow.Author.Rules.{rules}
-use Rattle.orbits.proofs.OrbitLaws.{all-rows}
+use Rattle.orbits.proofs.OrbitLaws.{all_rows}
 use Rattle.regions.proofs.Choices.{goes_open, goes_shut}
 use Rattle.regions.proofs.rows_from.Statement.{statement}
 use Rattle.regions.proofs.rows_from.Tie as tie
@@ -20,7 +20,7 @@ returns : tie.Need-returns
 returns c =
     let s = c.before.before.before.before in
     let a = s.args in
-    λ j lj. all-rows j (omega (arith, s.requires.1)) ∙ sym (goes_open a.n.0 a.lambda.0 a.delta.0 a.level.0 s.requires.0 j (rw (c.before.before.before.is-gone.ensures, c.before.removes.ensures) at c.if1.true))
+    λ j lj. all_rows j (omega (arith, s.requires.1)) ∙ sym (goes_open a.n.0 a.lambda.0 a.delta.0 a.level.0 s.requires.0 j (rw (c.before.before.before.is-gone.ensures, c.before.removes.ensures) at c.if1.true))
 
 all-but-requires : tie.Need-all-but-requires
 all-but-requires c κs = search rules
