@@ -5,7 +5,7 @@ use Prim.Native.Nat.{ℕ, suc, ◌+◌, ◌-◌, ◌*◌, ◌≤◌, ◌<◌}
 use native.Mathlib.Omega.{arith}
 use native.Mathlib.Numerals.{add-one}
 use lib.Dec.{eqb}
-use borrow.Author.Tests.{lt-ltb, le-ltb, eq-eqb, ne_eqb, not-false}
+use borrow.Author.Tests.{lt-ltb, le-ltb, not-false}
 use Rattle.maps.specs.Mark.{is_mark, between}
 use Rattle.maps.specs.Table.{each}
 use Rattle.maps.specs.Folded.{refused_marks, Folded, base, lambda_of, delta_of}
@@ -18,7 +18,7 @@ use Rattle.by_levels.specs.declared.Stop.{Stop}
 use Rattle.by_levels.specs.declared.Stop.TheVariants.{TooLong, Strays, Marks, NoPass}
 use Rattle.by_levels.specs.declared.End.{End}
 use Rattle.by_levels.specs.declared.End.TheVariants.{At, Stopped}
-use Rattle.by_levels.specs.Ends.{stopped_of, walked_of, Passable, entered, Second, Asked, level_of, Reads}
+use Rattle.by_levels.specs.Ends.{stopped_of, walked_of, Second, Asked, level_of, Reads}
 use Rattle.by_levels.proofs.Turns.{onward, reached, passed, Landed, passed_met, level_met, rest, level_turn}
 
 -- what is stopped stays so

@@ -1,5 +1,6 @@
 // Read one neighbour by levels: each step of a walk over a level is again a reading one level lower, down to the base. Assumes nothing.
 #![tactic(auto)]
+
 ghost use Rattle.std.specs.Prelude.{◌≡◌, ◌&&◌, ◌<◌, length, eqb};
 ghost use Rattle.maps.specs.Table.{each};
 ghost use Rattle.maps.specs.Read.{reading_of, read_lent_by_levels};

@@ -121,10 +121,10 @@ module _ (N : ℕ) (rows : List ℕ) (one_dart : 1 ≤ N) (fit : Rows 2 N rows) 
     one_dart = omega (arith, twice_M, one_dart);
     darts = omega (arith, twice_M, fit.darts);
     edges_row = record { exact = length_listed partner K; inside = λ d l. rw (edges_at d l) (edge_low d l) };
-    vertices-row = record { exact = length_listed successor K; inside = λ d l. rw (vertices_at d l) (vertex_low d l) };
-    rows-length = omega (arith, twice_M, fit.exact);
+    vertices_row = record { exact = length_listed successor K; inside = λ d l. rw (vertices_at d l) (vertex_low d l) };
+    rows_length = omega (arith, twice_M, fit.exact);
     twice = λ d l. ap (each edges) (edges_at d l) ∙ edges_at (partner d) (edge_low d l) ∙ edge_twice d l;
-    one-to-one = λ d e ld le f. successor_one d e ld le (sym (vertices_at d ld) ∙ f ∙ vertices_at e le);
+    one_to_one = λ d e ld le f. successor_one d e ld le (sym (vertices_at d ld) ∙ f ∙ vertices_at e le);
   }
 
   becomes : Becomes K (each edges) (each vertices) (entry N rows)

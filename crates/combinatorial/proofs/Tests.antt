@@ -156,9 +156,12 @@ module _ (M : ℕ) (vertices : List ℕ) where
           where
             same : (j k y : ℕ) → j < M → k < M → Mem y (image j) → Mem y (image k) → j ≡ k
             same j k y lj lk (inl e) (inl f) = one j k lj lk (sym e ∙ f)
+            same j k y lj lk (inl e) (inr x5) = elim x5 [ ]
+            same j k y lj lk (inr x5) _ = elim x5 [ ]
 
             among : (y j : ℕ) → j < M → Mem y (image j) → ((d : ℕ) → d < M → each vertices d ≡ x → ⊥) → (y < M) × (minus (λ z. true) x y ≡ true)
             among y j lj (inl e) h = (rw e (inside j lj), rw (ne_eqb y x (λ f. h j lj (sym e ∙ f))))
+            among y j lj (inr x4) h = elim x4 [ ]
 
 -- all tests of the import
 pub record Taken (M : ℕ) (edges vertices rows : List ℕ) : Type 0 where

@@ -1,10 +1,9 @@
 -- The cells of a level of an accepted pyramid are those of its explicit table. Assumes nothing.
-use mathlib.Core.Path.{◌≡◌, refl, sym, ◌∙◌}
+use mathlib.Core.Path.{◌≡◌, sym, ◌∙◌}
 use mathlib.Core.Bool.{Bool, true}
 use mathlib.Core.List.{List}
-use Prim.Native.Nat.{ℕ, suc, ◌*◌, ◌≤◌, ◌<◌}
+use Prim.Native.Nat.{ℕ, ◌≤◌, ◌<◌}
 use native.Mathlib.Omega.{arith}
-use lib.ListN.{length}
 use borrow.Author.Tests.{ltb-false, le-ltb, not-true}
 use Rattle.maps.specs.Map.{Involutions, Valid}
 use Rattle.maps.specs.Cell.{Cell, itself, onward}
@@ -16,7 +15,7 @@ use Rattle.maps.specs.Accepted.{Accepted}
 use Rattle.maps.specs.Verdict.{accepted, ◌then◌}
 use Rattle.maps.specs.Check.{check_map, check8, kernel_at, check_kernels, check_pyramid}
 use Rattle.maps.specs.CheckPyramid.{left_behind, table_at}
-use Rattle.maps.specs.Census.{Lowest, CellCount}
+use Rattle.maps.specs.Census.{CellCount}
 use Rattle.laws.proofs.Tables.{length_explicit}
 use Rattle.laws.proofs.Verdicts.{then_accepted, scan_accepted, scan_all}
 use Rattle.facts.proofs.Checks.{sound_map, pyramid_check}

@@ -3,7 +3,7 @@ use mathlib.Core.Path.{◌≡◌, refl, sym, ap, ◌∙◌}
 use mathlib.Core.Logic.{◌⊎◌, inl, inr}
 use mathlib.Core.Bool.{Bool, true, false, cond, true≢false}
 use mathlib.Core.List.{List}
-use Prim.Native.Nat.{ℕ, zero, suc, ◌+◌, ◌≤◌, ◌<◌}
+use Prim.Native.Nat.{ℕ, zero, suc, ◌+◌, ◌<◌}
 use native.Mathlib.Omega.{arith}
 use lib.ListN.{get_or}
 use lib.Dec.{eqb}
@@ -15,7 +15,7 @@ use Rattle.maps.specs.Table.{entry}
 use Rattle.maps.specs.Explicit.{present}
 use Rattle.maps.specs.Census.{Lowest, CellCount}
 use Rattle.laws.proofs.Counting.{minus, minus_other, count_same, count_minus}
-use Rattle.orbits.specs.Orbits.{Closed, Added}
+use Rattle.orbits.specs.Orbits.{Added}
 use Rattle.orbits.proofs.Orbits.{closed_orbit}
 use Rattle.orbits.specs.Explicit.{ExplicitLevel, but}
 use Rattle.orbits.proofs.Explicit.{Present, level_valid}

@@ -6,19 +6,19 @@ use Prim.Native.Nat.{ℕ, suc, ◌+◌, ◌*◌, ◌<◌}
 use native.Mathlib.Omega.{arith}
 use lib.ListN.{length, get_or, set}
 use lib.Seq.{get_or-set_same, get_or-set_other}
-use lib.Dec.{eqb, leb, ltb}
+use lib.Dec.{leb, ltb}
 use lib.IntN.{ℤ}
 use borrow.Author.Count.{below_more}
 use borrow.Author.Tests.{ltb-true, ltb-false}
 use mir.Syntax.{w32}
 use mir.Val.{SFits}
 use Rattle.maps.specs.Verdict.{Verdict, accepted, refused, when, ◌then◌}
-use Rattle.maps.specs.Sizes.{number1, number2, number3, number4, sizes, has_length}
+use Rattle.maps.specs.Sizes.{number1, number2, number3, number4, sizes}
 use Rattle.maps.specs.Table.{each}
 use Rattle.maps.specs.Folded.{survives, marks, level, Folded, base, lambda_of, delta_of}
 use Rattle.maps.specs.Accepted.{Accepted}
 use Rattle.maps.specs.CheckPyramid.{check_lent, check_leaves}
-use Rattle.maps.specs.Census.{CellCount, count_at, count_in, sum_at, CensusTaken, CensusLeaves, CensusPut, CensusPutLeaves, census_fits, census_lent, census_table}
+use Rattle.maps.specs.Census.{CellCount, count_at, count_in, sum_at, CensusTaken, CensusLeaves, CensusPutLeaves, census_fits, census_lent, census_table}
 use Rattle.laws.proofs.Lent.{with_checks, with_leaves, with_other, with_found}
 use Rattle.facts.proofs.ExactJobs.{check_accepts}
 use Rattle.answers.specs.Lent.{lent_of}

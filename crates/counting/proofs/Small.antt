@@ -1,8 +1,8 @@
 -- The census on small maps: the star's, whose sums are 2, and that of a vertex with two loose ends, whose sum is below zero. What is counted is computed: each dart passes on the lowest that it has heard of. Assumes nothing.
-use mathlib.Core.Path.{◌≡◌, refl, sym, ap, subst, ◌∙◌}
+use mathlib.Core.Path.{◌≡◌, refl, sym, subst, ◌∙◌}
 use mathlib.Core.Bool.{Bool, true, false, cond, ◌&&◌, not, true≢false}
 use mathlib.Core.List.{List, [], ◌∷◌}
-use Prim.Native.Nat.{ℕ, zero, suc, ◌≤◌, ◌<◌}
+use Prim.Native.Nat.{ℕ, zero, suc, ◌≤◌}
 use native.Mathlib.Omega.{arith}
 use lib.Dec.{eqb, ltb, lit≤}
 use lib.IntN.{pos, negsuc}
@@ -13,7 +13,7 @@ use Rattle.maps.specs.Map.{Involutions, Valid}
 use Rattle.maps.specs.Cell.{Cell, itself, onward}
 use Rattle.maps.specs.Table.{entry, each, listed, explicit}
 use Rattle.maps.specs.Explicit.{present, There}
-use Rattle.maps.specs.Census.{Lowest, CellCount, alternating}
+use Rattle.maps.specs.Census.{CellCount, alternating}
 use Rattle.maps.specs.Mark.{is_mark, between, has_beyond, beyond}
 use Rattle.maps.specs.Removal.{go_on, removal}
 use Rattle.maps.specs.Sizes.{number1, number2, number3, number4, sizes}

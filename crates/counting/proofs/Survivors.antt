@@ -6,13 +6,11 @@ use Prim.Native.Nat.{ℕ, zero, suc, ◌+◌, ◌≤◌, ◌<◌, zero-le}
 use native.Mathlib.Omega.{arith}
 use lib.Dec.{eqb}
 use borrow.Author.Tests.{eqb-true, eqb-false}
-use Rattle.maps.specs.Map.{Involutions, Valid}
-use Rattle.maps.specs.Cell.{Cell, itself}
-use Rattle.maps.specs.Orbit.{Orbit, here}
-use Rattle.maps.specs.Table.{entry, each}
-use Rattle.maps.specs.Folded.{survives, marks, level, level_table}
+use Rattle.maps.specs.Map.{Valid}
+use Rattle.maps.specs.Cell.{Cell}
+use Rattle.maps.specs.Orbit.{here}
+use Rattle.maps.specs.Table.{entry}
 use Rattle.maps.specs.Explicit.{present}
-use Rattle.maps.specs.Accepted.{Accepted}
 use Rattle.maps.specs.Census.{Lowest, CellCount}
 use Rattle.orbits.specs.Search.{has}
 use Rattle.orbits.specs.Orbits.{Ready}

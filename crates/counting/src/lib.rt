@@ -1,5 +1,6 @@
 // A census: the cells of each dimension of each level, and their alternating sum. One climb reaches every level in the lent table, and each is counted there. Assumes nothing.
 #![tactic(auto)]
+
 mod level; // level.rt: one explicit level
 mod slices; // slices.rt: the census in slices
 mod sums; // sums.rt: the alternating sums

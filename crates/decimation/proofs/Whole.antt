@@ -10,7 +10,7 @@ use borrow.Author.Tests.{le-leb, lt-leb}
 use Rattle.maps.specs.Verdict.{Verdict, accepted, refused, when, ◌then◌}
 use Rattle.maps.specs.Count.{one}
 use Rattle.maps.specs.Table.{each}
-use Rattle.maps.specs.Folded.{survivors, of_parts, Folded}
+use Rattle.maps.specs.Folded.{survivors, Folded}
 use Rattle.maps.specs.CheckPyramid.{check_lent}
 use Rattle.maps.specs.Accepted.{Accepted}
 use Rattle.maps.specs.Decimation.{double, quotient, decimation_lent, decimation_empty, decimation_factor}

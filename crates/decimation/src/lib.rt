@@ -1,5 +1,6 @@
 // How fast a pyramid shrinks: the factor between the survivors of a level and those of the next. Assumes nothing.
 #![tactic(auto)]
+
 ghost use Rattle.std.specs.Prelude.{◌≡◌};
 ghost use Rattle.maps.specs.Decimation.{decimation_table};
 ghost use Rattle.answers.specs.Pyramid.{lent};

@@ -1,5 +1,5 @@
 -- What the walks of an unfolding leave. Assumes nothing: these are definitions.
-use Rattle.std.specs.Prelude.{◌≡◌, List, [], ℕ, suc, ◌+◌, ◌*◌, ◌≤◌, length}
+use Rattle.std.specs.Prelude.{◌≡◌, List, ℕ, suc, ◌+◌, ◌*◌, ◌≤◌, length}
 use Rattle.maps.specs.Verdict.{Verdict, accepted, refused, scan}
 use Rattle.maps.specs.Table.{explicit}
 use Rattle.maps.specs.Folded.{survives, Folded, base, lambda_of, delta_of}

@@ -1,5 +1,6 @@
 // The walks of a level into a table, over rows, then darts, left at the first refusal. Assumes nothing.
 #![tactic(auto)]
+
 ghost use Rattle.std.specs.Prelude.{◌≡◌, suc, ◌*◌, max, length};
 ghost use Rattle.answers.specs.Pyramid.{lent};
 ghost use Rattle.reading.specs.Walks.{Allowed, Meets};

@@ -1,5 +1,6 @@
 // Join two kernels of an accepted pyramid that follow each other. Assumes nothing.
 #![tactic(auto)]
+
 ghost use Rattle.std.specs.Prelude.{◌≡◌, suc, length, leb};
 ghost use Rattle.maps.specs.Table.{each, listed};
 ghost use Rattle.maps.specs.Join.{joinΛ, join_lent, join_height, join_lambda, join_leaves};

@@ -1,5 +1,6 @@
 // Read one neighbour by the direct walk. Assumes nothing.
 #![tactic(auto)]
+
 ghost use Rattle.std.specs.Prelude.{◌≡◌, ◌≤◌, ◌<◌, max};
 ghost use Rattle.maps.specs.Read.{walk_gives, walk_since, read_lent, read_since};
 ghost use Rattle.answers.specs.Pyramid.{lent};

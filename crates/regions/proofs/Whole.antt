@@ -2,8 +2,7 @@
 use mathlib.Core.Path.{◌≡◌, refl, sym, ap, ◌∙◌}
 use mathlib.Core.Bool.{true, false}
 use mathlib.Core.List.{List}
-use Prim.Native.Nat.{ℕ, suc, ◌*◌, ◌≤◌, ◌<◌}
-use lib.ListN.{length}
+use Prim.Native.Nat.{ℕ, ◌≤◌, ◌<◌}
 use borrow.Author.Tests.{lt-ltb, le-ltb}
 use Rattle.maps.specs.Verdict.{Verdict, accepted, refused, ◌then◌, scan}
 use Rattle.maps.specs.Sizes.{sizes, number4, number11, has_length}
@@ -98,7 +97,7 @@ module _ (P : Folded) (table : List ℕ) (l : ℕ) (names : List ℕ) where
               let w = region_two_way (base P) n N h (lambda_of P) (delta_of P) accepts.pyramid (sym plain) l k in
               record {
                 rows = record { dimension = accepts.dimension.1; darts = accepts.darts.1; exact = accepts.rows_length };
-                two-way = record {
+                two_way = record {
                   inside = λ j d lj ld u. inside j d lj ld;
                   twice = λ j d lj ld u. accepts.pyramid.base.twice j d lj ld;
                   both = λ j d lj ld u. is j (base P j d) lj (inside j d lj ld) ∙ w.both j d lj ld (sym (is j d lj ld) ∙ u);

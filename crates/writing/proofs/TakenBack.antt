@@ -7,7 +7,7 @@ use lib.ListN.{length, take, drop}
 use lib.Seq.{take_at, length-take-le}
 use lib.Dec.{leb}
 use borrow.Author.Tests.{le-leb}
-use Rattle.maps.specs.Verdict.{accepted, ◌then◌}
+use Rattle.maps.specs.Verdict.{accepted}
 use Rattle.maps.specs.Sizes.{number4}
 use Rattle.maps.specs.Folded.{Folded, of_parts}
 use Rattle.maps.specs.CheckPyramid.{left_behind, table_at, check_lent, check_leaves}

@@ -1,5 +1,6 @@
 // Write the record of an accepted pyramid into a lent buffer. Assumes nothing.
 #![tactic(auto)]
+
 mod putting; // putting.rt: a record's fields into the buffer
 
 ghost use Rattle.std.specs.Prelude.{◌≡◌, ◌≤◌};

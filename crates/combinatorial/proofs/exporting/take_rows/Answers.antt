@@ -1,0 +1,19 @@
+-- `combinatorial::exporting::take_rows` meets its contract. The invariant: the entries of the darts passed are written; the measure is the darts that are left. Assumes nothing.
+use mathlib.Core.Path.{◌∙◌}
+use native.Mathlib.Omega.{arith}
+use Rattle.maps.specs.Table.{entry}
+use Rattle.laws.proofs.Tables.{listed_of}
+use Rattle.combinatorial.specs.Back.{edge_of, vertex_of}
+use Rattle.combinatorial.proofs.exporting.take_rows.Goals as goal
+
+-- TODO same_length : tie.Need-same-length invariant-loop-d decreases-loop-d
+-- same_length c = c.before.loop.invariant.1
+
+-- TODO same-length-2 : tie.Need-same-length-2 invariant-loop-d decreases-loop-d
+-- same-length-2 c = c.before.loop.invariant.2
+
+pub returns : goal.returns
+returns c =
+    let l = c.loop-d in
+    let s = c in
+    let rows = entry s.args.darts s.args.rows.now in record { edges_left = listed_of (edge_of rows) _ l.edges (l.invariant.1 ∙ s.requires.1) (λ k f. l.invariant.3 k (omega arith)); vertices_left = listed_of (vertex_of rows) _ l.vertices (l.invariant.2 ∙ s.requires.2) (λ k f. l.invariant.4 k (omega arith)) }

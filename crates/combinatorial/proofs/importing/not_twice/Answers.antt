@@ -1,0 +1,17 @@
+-- `combinatorial::importing::not_twice` meets its contract. The invariant: the edges of the darts passed lead back; the measure is the darts that are left. Assumes nothing.
+use mathlib.Core.Path.{sym}
+use native.Mathlib.Omega.{arith}
+use Rattle.combinatorial.proofs.Tests.{twice_back, back_first}
+use Rattle.combinatorial.proofs.importing.not_twice.Goals as goal
+
+-- TODO cast-partner : tie.Need-overflow-cast-partner invariant-loop-d decreases-loop-d
+-- cast-partner c = let low = c.before.before.before.requires.inside c.before.before.loop.d c.before.loop-test.true in search rules
+
+pub returns-then-edges-partner : goal.returns-then-edges-partner
+returns-then-edges-partner c =
+    let l = c.loop-d in
+    let a = c.args in
+    sym (back_first a.darts a.edges.now l.d c.loop-d-test.true l.invariant.1 c.if-edges-partner.true)
+
+pub returns : goal.returns
+returns c = let a = c.args in sym (twice_back a.darts a.edges.now (λ x f. c.loop-d.invariant.1 x (omega arith)))

@@ -1,0 +1,23 @@
+-- `combinatorial::importing::rows_refused` meets its contract. Assumes nothing.
+use mathlib.Core.Path.{◌≡◌, sym}
+use Rattle.maps.specs.Verdict.{accepted}
+use Rattle.maps.specs.Partner.{outside}
+use Rattle.answers.proofs.Refusals.{told}
+use Rattle.combinatorial.proofs.Tests.{outside_inside}
+use Rattle.combinatorial.proofs.importing.rows_refused.Goals as goal
+
+pub not_twice-requires : goal.not_twice-requires
+not_twice-requires c =
+    let edges-in : let a = c.args in accepted ≡ outside a.darts 0 a.edges.now =
+    told c.outside.ensures c.in_default.is in
+    let first = c in
+    let s = c in
+    record { exact = s.requires.0; inside = outside_inside s.args.darts 0 s.args.edges.now (sym (edges-in)) }
+
+pub two_to_one-requires : goal.two_to_one-requires
+two_to_one-requires c =
+    let vertices-in : let a = c.args in accepted ≡ outside a.darts 1 a.vertices.now =
+    told c.outside-2.ensures c.in_default-outside.is in
+    let second = c in
+    let s = c in
+    (record { exact = s.requires.1; inside = outside_inside s.args.darts 1 s.args.vertices.now (sym (vertices-in)) }, s.requires.2)

@@ -1,0 +1,10 @@
+-- `joining::join_lambda` meets its contract. The invariant: the darts passed have their joined Λ. The measure: the darts left. Assumes nothing.
+use mathlib.Core.Path.{refl}
+use Rattle.climbing.proofs.Rows.{row_all}
+use Rattle.joining.proofs.join_lambda.Goals as goal
+
+-- TODO same_length : tie.Need-same-length invariant-loop-d decreases-loop-d
+-- same_length c = c.before.loop.invariant.1.long
+
+pub returns : goal.returns
+returns c = row_all c.loop-d.invariant.1 _ refl c.loop-d-test.false
