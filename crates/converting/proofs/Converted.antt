@@ -6,7 +6,7 @@ use Prim.Native.Nat.{ℕ, suc, ◌*◌, ◌≤◌}
 use lib.ListN.{length, take, drop}
 use lib.Dec.{eqb, leb}
 use borrow.Author.Tests.{le-leb}
-use Rattle.maps.specs.Verdict.{accepted, ◌then◌}
+use Rattle.maps.specs.Verdict.{accepted}
 use Rattle.maps.specs.Sizes.{number4}
 use Rattle.maps.specs.Record.{wide, either, one_byte, record_dimension, record_height, record_darts, formed, record_rows, record_lambda, record_delta, record_lent, take_lent, take_rows, take_lambda, take_delta}
 use Rattle.maps.specs.Folded.{of_parts}

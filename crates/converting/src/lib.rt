@@ -1,5 +1,6 @@
 // Convert an old record, with rows of either kind: it is taken, which checks its pyramid, and the new record written, in one job. Assumes nothing: any bytes at all are answered.
 #![tactic(auto)]
+
 ghost use Rattle.std.specs.Prelude.{◌≡◌};
 ghost use Rattle.maps.specs.Record.{either, take_rows, take_lambda, take_delta, take_table};
 ghost use Rattle.maps.specs.Convert.{convert_leaves};

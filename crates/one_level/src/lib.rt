@@ -1,5 +1,6 @@
 // Unfold a whole level: the walks of all its darts, into a lent table. Assumes nothing.
 #![tactic(auto)]
+
 ghost use Rattle.std.specs.Prelude.{◌≡◌, length};
 ghost use Rattle.maps.specs.Verdict.{if_accepted};
 ghost use Rattle.maps.specs.Table.{listed, absent};

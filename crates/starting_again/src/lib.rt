@@ -1,5 +1,6 @@
 // Start again from a higher level: it becomes the base, and its survivors are packed to the front of what is lent. Assumes nothing.
 #![tactic(auto)]
+
 mod reaching; // reaching.rt: the kernels below the level, removed in the rows
 
 ghost use Rattle.std.specs.Prelude.{◌≡◌};

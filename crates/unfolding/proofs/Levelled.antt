@@ -1,19 +1,18 @@
 -- The counts and the levels since which of an accepted pyramid's levels, as they stand in tables, from one level to the next. Assumes nothing.
 use mathlib.Core.Path.{◌≡◌, refl, sym, ap, ◌∙◌}
-use mathlib.Core.Bool.{Bool, true, false, cond, ◌&&◌, not}
+use mathlib.Core.Bool.{Bool, true, false, cond}
 use mathlib.Core.List.{List}
-use Prim.Native.Nat.{ℕ, zero, suc, ◌+◌, ◌*◌, ◌≤◌, ◌<◌, max}
+use Prim.Native.Nat.{ℕ, zero, suc, ◌≤◌, ◌<◌}
 use native.Mathlib.Omega.{arith}
 use lib.ListN.{length}
-use lib.Dec.{eqb, ltb}
-use borrow.Author.Tests.{ltb-false, lt-ltb, le-ltb, eqb-true, eq-eqb, not-true}
+use borrow.Author.Tests.{ltb-false, lt-ltb, le-ltb, not-true}
 use Rattle.maps.specs.Verdict.{accepted, scan}
-use Rattle.maps.specs.Count.{count, sum}
+use Rattle.maps.specs.Count.{count}
 use Rattle.maps.specs.Map.{Involutions}
 use Rattle.maps.specs.Mark.{is_mark}
 use Rattle.maps.specs.Removal.{marked}
-use Rattle.maps.specs.Table.{entry, each, absent}
-use Rattle.maps.specs.Folded.{On, gone, survives, removed_below, marks, level, Folded, base, lambda_of, delta_of}
+use Rattle.maps.specs.Table.{entry, each}
+use Rattle.maps.specs.Folded.{On, gone, survives, marks, level, Folded, base, lambda_of, delta_of}
 use Rattle.maps.specs.Trail.{largest, since, latest}
 use Rattle.maps.specs.Cost.{reads, cost}
 use Rattle.maps.specs.Pyramid.{Pyramid}
@@ -23,16 +22,16 @@ use Rattle.maps.specs.CheckPyramid.{check_lent, table_at}
 use Rattle.maps.specs.Unfold.{unfold_lent, unfold_total, unfold_since}
 use Rattle.maps.specs.UnfoldAll.{counts_from, counts_of, total_at, latest_at}
 use Rattle.laws.proofs.Counting.{sum_same, count_le}
-use Rattle.laws.proofs.Verdicts.{scan_accepted, scan_all, and_both}
+use Rattle.laws.proofs.Verdicts.{scan_accepted, scan_all}
 use Rattle.laws.proofs.Tables.{entry_explicit}
 use Rattle.facts.proofs.Checks.{kernel_sound}
 use Rattle.facts.proofs.Facts.{facts}
 use Rattle.facts.proofs.Links.{stands_since_lem}
 use Rattle.facts.proofs.Levels.{level_valid, taken_in}
-use Rattle.facts.proofs.Towers.{in_kernel, on_below, on_above}
+use Rattle.facts.proofs.Towers.{on_below, on_above}
 use Rattle.facts.proofs.Climbing.{table_present}
 use Rattle.facts.proofs.Agreement.{passed_whole}
-use Rattle.facts.proofs.AcceptedJobs.{accepted_pyramid, accepted_unfold, accepted_total}
+use Rattle.facts.proofs.AcceptedJobs.{accepted_pyramid, accepted_unfold}
 use Rattle.facts.proofs.Carried.{carried_count, carried_since}
 use Rattle.kernels.specs.Strings.{kernel_row, Linked, Strung}
 use Rattle.kernels.specs.Ready.{Ready}
@@ -43,7 +42,7 @@ use Rattle.checking.proofs.PyramidCheck.{check_passed}
 use Rattle.carrying.specs.Carried.{leads, Led, counted, Fits}
 use Rattle.unfolding.specs.Told.{total_on, latest_on}
 use Rattle.carrying.proofs.Local.{counts_stay, counts_local}
-use Rattle.carrying.proofs.Leading.{Leading, leading}
+use Rattle.carrying.proofs.Leading.{leading}
 use Rattle.stacking.proofs.Stacks.{block_long}
 use Rattle.unfolding.proofs.Totals.{largest_same}
 

@@ -4,14 +4,13 @@ use mathlib.Core.Bool.{Bool, true, false, cond}
 use mathlib.Core.List.{List, ◌++◌}
 use Prim.Native.Nat.{ℕ, suc, ◌+◌, ◌-◌, ◌*◌, ◌≤◌, ◌<◌}
 use native.Mathlib.Nat.{mul-le-mul_right, suc-mul}
-use native.Mathlib.Numerals.{add-one}
 use native.Mathlib.Omega.{arith}
 use lib.ListN.{length, get_or, set, take, drop, replicate, length-set, get_or-replicate}
 use lib.Seq.{get_or-take, take_at}
 use lib.Dec.{ltb}
 use borrow.Author.Tests.{ltb-true, ltb-false}
 use Rattle.maps.specs.Table.{entry, each, listed}
-use Rattle.maps.specs.Folded.{Folded, of_parts}
+use Rattle.maps.specs.Folded.{Folded}
 use Rattle.maps.specs.CheckPyramid.{table_at}
 use Rattle.maps.specs.UnfoldAll.{by_level, total_at, latest_at}
 use Rattle.laws.proofs.Tables.{listed_of, get_D_listed, table_size, in_table}

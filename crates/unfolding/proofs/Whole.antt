@@ -3,11 +3,10 @@ use mathlib.Core.Path.{◌≡◌, refl, sym, ap, ◌∙◌}
 use mathlib.Core.Bool.{Bool, true, false, ◌&&◌}
 use mathlib.Core.List.{List, [], ◌++◌, append-nil}
 use Prim.Native.Nat.{ℕ, suc, ◌*◌}
-use native.Mathlib.Omega.{arith}
 use lib.ListN.{length, drop}
 use lib.Seq.{drop-length}
 use borrow.Author.Tests.{eq-eqb, eqb-true}
-use Rattle.maps.specs.Verdict.{Verdict, accepted, refused, if_accepted, ◌then◌}
+use Rattle.maps.specs.Verdict.{Verdict, accepted, refused, ◌then◌}
 use Rattle.maps.specs.Sizes.{sizes, number4, has_length}
 use Rattle.maps.specs.Folded.{Folded, base, lambda_of, delta_of}
 use Rattle.maps.specs.Check.{check_pyramid}

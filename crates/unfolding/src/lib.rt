@@ -1,5 +1,6 @@
 // Unfold all levels in one call: each explicit level in a block of its own, and what unfolding it counts. The counts are carried from one level to the next, so that no walk is walked again.
 #![tactic(auto)]
+
 mod telling; // telling.rt: what unfolding each level counts
 
 ghost use Rattle.std.specs.Prelude.{◌≡◌};

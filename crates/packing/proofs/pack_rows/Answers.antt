@@ -85,9 +85,6 @@ fill_numbers-requires c =
     ) in
     let p = places in omega (arith, p.0, p.1)
 
--- TODO same_length : tie.Need-same-length invariant-loop-i decreases-loop-i
--- same_length c = ap length c.before.before.fill-numbers.ensures ∙ packed_long _ _ _ _ ∙ c.before.before.before.before.before.loop.invariant.3.long
-
 pub returns : goal.returns
 returns c =
     let h = c in
