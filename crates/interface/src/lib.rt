@@ -1,5 +1,6 @@
 // What the C interface answers: a struct for each kind of answer, made of the job's own. Assumes nothing.
 #![tactic(auto)]
+
 ghost use Rattle.std.specs.Prelude.{◌≡◌, ◌*◌, ◌≤◌, cond, eqb};
 ghost use Rattle.maps.specs.Verdict.{accepted};
 ghost use Rattle.answers.specs.Numbers.{refusal_of, verdict_of};

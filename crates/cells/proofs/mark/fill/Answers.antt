@@ -6,9 +6,6 @@ use Rattle.orbits.specs.Search.{has}
 use Rattle.cells.specs.Marked.{marks_of}
 use Rattle.cells.proofs.mark.fill.Goals as goal
 
--- TODO same_length : tie.Need-same-length invariant-loop-d decreases-loop-d
--- same_length c = c.before.loop.invariant.1
-
 pub returns : goal.returns
 returns c =
     let s = c in

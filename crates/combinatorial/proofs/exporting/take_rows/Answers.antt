@@ -6,12 +6,6 @@ use Rattle.laws.proofs.Tables.{listed_of}
 use Rattle.combinatorial.specs.Back.{edge_of, vertex_of}
 use Rattle.combinatorial.proofs.exporting.take_rows.Goals as goal
 
--- TODO same_length : tie.Need-same-length invariant-loop-d decreases-loop-d
--- same_length c = c.before.loop.invariant.1
-
--- TODO same-length-2 : tie.Need-same-length-2 invariant-loop-d decreases-loop-d
--- same-length-2 c = c.before.loop.invariant.2
-
 pub returns : goal.returns
 returns c =
     let l = c.loop-d in

@@ -4,9 +4,6 @@ use native.Mathlib.Omega.{arith}
 use Rattle.combinatorial.proofs.Tests.{twice_back, back_first}
 use Rattle.combinatorial.proofs.importing.not_twice.Goals as goal
 
--- TODO cast-partner : tie.Need-overflow-cast-partner invariant-loop-d decreases-loop-d
--- cast-partner c = let low = c.before.before.before.requires.inside c.before.before.loop.d c.before.loop-test.true in search rules
-
 pub returns-then-edges-partner : goal.returns-then-edges-partner
 returns-then-edges-partner c =
     let l = c.loop-d in

@@ -13,9 +13,6 @@ pub loop-d-init : goal.loop-d-init
 unfolding had_before
 loop-d-init c = (zero-le, length-replicate 2048 false, λ x l. get_or-replicate 2048 x false false (omega arith), below_none _)
 
--- TODO cast-image : tie.Need-overflow-cast-image invariant-loop-d decreases-loop-d
--- cast-image c = let low = c.before.before.before.requires.0.inside c.before.before.loop.d c.before.loop-test.true in search rules
-
 pub returns-then-had-image : goal.returns-then-had-image
 returns-then-had-image c =
     let l = c.loop-d in
