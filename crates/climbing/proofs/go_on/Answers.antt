@@ -20,12 +20,6 @@ step-requires c =
     let v = reached in
     let t = below in record { tested = climb_tested v t; strung = climb_strung v t refl }
 
--- TODO same_length : tie.Need-same-length invariant-loop-l decreases-loop-l
--- same_length c =
---     let s : tie.After-step invariant-loop-l decreases-loop-l = c.before.before.before.before.before in
---     let h = c.before in
---     c.before.before.before.before.table.given ∙ climb_long (reached h) ∙ sym (climb_long c.pre.2.1)
-
 pub returns-in-Refused : goal.returns-in-Refused
 returns-in-Refused c =
     let climbed : let a = c.args in (rows : List ℕ) → From a.stretch a.lambda.now a.delta.now a.head.now a.next.now a.table.now rows → Climbed (over a.stretch a.lambda.now a.delta.now a.head.now a.next.now a.table.now rows) c.loop-l.l a.head.now a.next.now c.loop-l.table =
@@ -44,9 +38,6 @@ loop-l-preserved c =
     let i = c in
     let t = i.loop-l-test.true in
     (omega arith, λ h rows low v. climb_next (i.loop-l.invariant.1 h rows low v) (omega arith) s.step.ensures.table_left (told s.step.ensures.verdict c.in_default.is))
-
--- TODO same-length-2 : tie.Need-same-length-2 invariant-loop-l decreases-loop-l
--- same-length-2 c = climb_long (reached c.before) ∙ sym (climb_long c.pre.2.1)
 
 pub returns : goal.returns
 returns c =

@@ -56,11 +56,6 @@ count_level-row-requires c =
     let z = a.sizes in
     (climbed_explicit (lent z a.rows.now a.lambda.now a.delta.now) a.table.now s.requires (o.loop-l.l + 1) (reached).0 _ (reached).1, s.requires.dimension.0)
 
--- TODO add-l : tie.Need-overflow-add-l invariant-loop-l decreases-loop-l
--- add-l c =
---     let g = c.before.before.before.before.before in
---     omega (arith, (reached g).0, (c.before).pre.height)
-
 pub loop-l-preserved : goal.loop-l-preserved
 loop-l-preserved c =
     let reached : let o = c in let z = c.args.sizes in (o.loop-l.l + 1 ≤ z.h.0) × (c.go_on.new.table ≡ climb_to_leaves (lent z c.args.rows.now c.args.lambda.now c.args.delta.now) (o.loop-l.l + 1)) =
@@ -83,12 +78,3 @@ loop-l-preserved c =
       climb_reached l.invariant.1 is.0 (sym passes) is.1,
       subst (λ (t : List (List ℕ)). Counted P t (l.l + 1 + 1)) (sym c.with_row-grown.ensures) more,
     )
-
--- TODO same_length : tie.Need-same-length invariant-loop-l decreases-loop-l
--- same_length c =
---     let o = c.before in
---     let s = c in
---     let a = s.args in
---     let z = a.sizes in
---     let climbed = o.loop.invariant.1 in
---     ap (λ (t : List ℕ). length t) climbed.holds ∙ (table_accepted (lent z a.rows.now a.lambda.now a.delta.now) a.table.now s.pre o.loop.l climbed.low).table_length ∙ sym s.pre.table_length

@@ -80,17 +80,6 @@ returns-in-Refused-go_on c =
     let w = climb_reached v (low) (told (g.go_on.ensures.verdict rows v) e.in_default.is) (g.go_on.ensures.table_left rows v) in let both =
     not_climbed (P) s.args.at.level.0 c.in-Refused-go_on.r (told (g₂.go_on-2.ensures.verdict rows w) c.in-Refused-go_on.is ∙ to_top (P)) (g₂.go_on-2.ensures.table_left rows w ∙ top_left (P)) in record { verdict = both.0; table_left = both.1 }
 
--- TODO same-length-3 : tie.Need-same-length-3
--- same-length-3 c =
---     let k : tie.After-climb-to = c.before.before in
---     let e = c in
---     let g = c in
---     let b = c in
---     let s = c in
---     let rows = s.args.rows.now in
---     let v = climb_none s.pre.0 b.begin.ensures.0 b.begin.ensures.1 in
---     climb_long (climb_reached v (low b) (told (g.go_on.ensures.0 rows v) e.enum_told.given.1) k.climb-to.ensures.1) ∙ sym s.pre.2
-
 pub returns-in-Refused-found : goal.returns-in-Refused-found
 returns-in-Refused-found c =
     let P : Folded =

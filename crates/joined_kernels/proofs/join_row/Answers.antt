@@ -2,8 +2,5 @@
 use Rattle.climbing.proofs.Rows.{row_all}
 use Rattle.joined_kernels.proofs.join_row.Goals as goal
 
--- TODO same_length : tie.Need-same-length invariant-loop-d decreases-loop-d
--- same_length c = c.before.loop.invariant.1.long
-
 pub returns : goal.returns
 returns c = row_all c.loop-d.invariant.1 _ c.requires c.loop-d-test.false

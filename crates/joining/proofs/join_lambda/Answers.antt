@@ -3,8 +3,5 @@ use mathlib.Core.Path.{refl}
 use Rattle.climbing.proofs.Rows.{row_all}
 use Rattle.joining.proofs.join_lambda.Goals as goal
 
--- TODO same_length : tie.Need-same-length invariant-loop-d decreases-loop-d
--- same_length c = c.before.loop.invariant.1.long
-
 pub returns : goal.returns
 returns c = row_all c.loop-d.invariant.1 _ refl c.loop-d-test.false

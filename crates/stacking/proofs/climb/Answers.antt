@@ -114,9 +114,6 @@ loop-l-preserved c =
     let g = stacking_next (given) s.requires.0 (based) h.loop-l.tables (based-long) h.loop-l.l h.loop-l.from h.loop-l.invariant i.loop-l-test.true to (to_is) (told d.raise.ensures.verdict c.in_default.is) d.raise.ensures.pair_left in
     record { low = g.low; from_is = omega (arith, g.from_is, s.requires.0.rows_long); holds = g.holds; checked = g.checked }
 
--- TODO same_length : tie.Need-same-length invariant-loop-l decreases-loop-l
--- same_length c = let d : tie.After-raise invariant-loop-l decreases-loop-l = c.before.before.before.before.before in c.before.before.before.before.tables2.given.1 ∙ same-long c.before
-
 pub returns : goal.returns
 unfolding blocks_left
 returns c =

@@ -14,6 +14,3 @@ loop-k-preserved c =
     let v = h.loop-k.invariant in
     let k = h.loop-k.k in
     (omega arith, ap (λ (x : List ℕ). set x (s.args.size + k) (get_or x k 0)) v.1 ∙ doubled_next s.args.pair.now s.args.size s.requires k c.loop-k-test.true, length-set h.loop-k.pair _ _ ∙ v.2)
-
--- TODO same_length : tie.Need-same-length invariant-loop-k decreases-loop-k
--- same_length c = c.before.loop.invariant.2 ∙ sym c.before.before.requires

@@ -58,9 +58,6 @@ overflow_sub-result c =
     (passed _ _ _ _ (verdict)).low
 
 -- the table is as long as the c it
--- TODO table-long : tie.Need-same-length-9
--- table-long c = let k : tie.After-slice-known6 = (fine c).before.before in search rules
-
 pub returns : goal.returns
 returns c =
     let verdict : let a = c.args in rebase_lent (lent a.at.sizes a.rows.now a.lambda.now a.delta.now) a.table.now a.at.level.0 a.old.now ≡ accepted =

@@ -2,11 +2,5 @@
 use Rattle.climbing.proofs.Rows.{row_all}
 use Rattle.checking.proofs.pyramid.fold_in.Goals as goal
 
--- TODO same_length : tie.Need-same-length invariant-loop-d decreases-loop-d
--- same_length c = c.before.loop.invariant.1.long
-
--- TODO same-length-2 : tie.Need-same-length-2 invariant-loop-d decreases-loop-d
--- same-length-2 c = c.before.loop.invariant.2.long
-
 pub returns : goal.returns
 returns c = let p = c.requires in let v = c.loop-d.invariant in record { lambda_left = row_all v.1 _ p.1 c.loop-d-test.false; delta_left = row_all v.2 _ p.2 c.loop-d-test.false }

@@ -14,8 +14,5 @@ loop-d-preserved c test w =
     let i = c in
     clear_next w (i.loop-d.invariant test w) i.loop-d-test.true c.next_of-d.ensures c.clear_dart.ensures
 
--- TODO same_length : tie.Need-same-length invariant-loop-d decreases-loop-d
--- same_length c = let w = c.pre.0 in (c.before.loop.invariant w.0 w.1).table.long
-
 pub returns : goal.returns
 returns c test w = clear_all w (c.loop-d.invariant test w) c.loop-d-test.false

@@ -19,9 +19,6 @@ overflow_add-turns c =
     let few = turns_most a.kernel.n.0 a.kernel.darts (kernel_row a.lambda.now a.delta.now a.kernel.level.0) a.table.now c.relink_alike-end.result.dart c.requires.ready.tested.shape.darts in
     omega (arith, h.loop-d.invariant.1, e.1)
 
--- TODO same_length : tie.Need-same-length invariant-loop-d decreases-loop-d
--- same_length c = c.before.loop.invariant.0.to.table.long
-
 pub returns : goal.returns
 returns c =
     let p = c.requires in

@@ -25,6 +25,3 @@ loop-l-preserved c =
     let e = c in
     let v = e.loop-l in
     (omega arith, λ h r. kernel_removed (v.invariant.1 h r) (omega (arith, r.low)) r.climbed c.remove.ensures)
-
--- TODO same_length : tie.Need-same-length invariant-loop-l decreases-loop-l
--- same_length c = let s = c in climb_long (c.before.loop.invariant.1 s.pre.0 s.pre.1)

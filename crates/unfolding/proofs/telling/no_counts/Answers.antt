@@ -4,8 +4,5 @@ use native.Mathlib.Omega.{arith}
 use Rattle.climbing.proofs.Rows.{row_all}
 use Rattle.unfolding.proofs.telling.no_counts.Goals as goal
 
--- TODO same_length : tie.Need-same-length invariant-loop-l decreases-loop-l
--- same_length c = c.before.loop.invariant.1.long
-
 pub returns : goal.returns
 returns c = row_all c.loop-l.invariant.1 _ refl (omega (arith, c.loop-l-test.false))
