@@ -22,7 +22,8 @@ is, to the byte. Lines on the error stream that begin with 'program.sh:' are add
 says and where, and headings where that is a terminal.
 
 In the project the first run proves the program and all that it uses, which takes minutes; a later one looks whether
-anything changed. A program that is run by itself says nothing when its output can't be written; here that is noticed.
+anything changed. A program that is run by itself and can't read or write ends with status 1 and a line on the error
+stream that begins with 'Error'; here an output that can't be written is status 4.
 
 Status: 0 written, 1 the record is refused, 2 the record can't be read or the call is wrong, 3 the program isn't proved
 or doesn't run, 4 what it writes can't be written.
@@ -113,22 +114,20 @@ run=()
 if [ -f "$here/crates.txt" ]; then
     command -v rt >/dev/null || stop 3 "the toolchain's command rt is not here"
     [ -f "$binary" ] || say "proving the program and all that it uses, crate by crate: minutes at the first run"
-    # Of what rt says, only which crate is proved now and how long that took.
-    (cd "$here" && rt check "$program") 2>&1 | tee "$work/log" | grep --line-buffered '^rt: .* proved ([0-9]' >&2
+    # Of what rt says, only which crate is looked at now.
+    "$here/build.sh" "$program" 2>&1 | tee "$work/log" | grep --line-buffered -o '^rt: chose .* for .*' |
+        sed -u 's/^rt: chose .* for /rt: proving /' >&2
     if [ "${PIPESTATUS[0]}" -ne 0 ]; then
         cat "$work/log" >&2
-        stop 3 "the program isn't proved (rt check $program)"
+        stop 3 "the program isn't proved (build.sh $program)"
     fi
-    if [ "$(uname -m)" != x86_64 ]; then
-        tools=$(dirname "$(dirname "$(rt doc)")")/on/$(uname -m)/toolchain
-        run=("$tools/bin/qemu-x86_64" "$tools/lib/ld-linux-x86-64.so.2" --library-path "$tools/lib")
-    fi
-elif [ "$(uname -m)" != x86_64 ]; then
+fi
+if [ "$(uname -m)" != x86_64 ]; then
     run=(qemu-x86_64 -L /usr/x86_64-linux-gnu -E LD_LIBRARY_PATH=/usr/x86_64-linux-gnu/lib)
 fi
 
-# What is written may be a record, so it goes by a file and not through the shell. It goes through cat, which notices a
-# full disk; the program says nothing of one.
+# What is written may be a record, so it goes by a file and not through the shell. It goes through cat, so that a full
+# disk has one status, whatever the program ends with.
 "${run[@]}" "$binary" <&3 2>"$work/error" | cat 2>/dev/null >"$work/out"
 ended=("${PIPESTATUS[@]}")
 [ "${ended[1]}" -eq 0 ] || stop 4 "what $program writes finds no room in $work"

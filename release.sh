@@ -8,8 +8,8 @@ usage() {
 ./release.sh --trial FOLDER [--gate FILE] [--install PREFIX]
 
 Makes target/release/zompelgors-VERSION.tar.gz and the sum of it beside it, and tries it. The two libraries come from
-rt staticlib and the programs from rt check, in this run; the command zompelgors comes from cargo, the Python wheel from
-python/backend.py. Header, rust/Cargo.toml, rust/cli/Cargo.toml, python/zompelgors/__init__.py and the newest entry of
+rt lib and the programs from rt run, in this run (build.sh); the command zompelgors comes from cargo, the Python wheel
+from python/backend.py. Header, rust/Cargo.toml, rust/cli/Cargo.toml, python/zompelgors/__init__.py and the newest entry of
 docs/LANDINGS.md must name one version.
 
   --trial FOLDER    packs the libraries that lie in the folder, and the programs of target/bin that there are, whoever
@@ -86,7 +86,7 @@ else
     rm -f "$made/$name".tar.gz* # of an earlier run, which nobody shall take for this one's
     command -v rt >/dev/null || stop 2 "the toolchain's command rt is not here"
     rm -f "$libraries"/libzompelgors.a "$libraries"/libzompelgors_regions.a "${programs[@]/#/target/bin/}"
-    rt staticlib zompelgors && rt staticlib zompelgors_regions && rt check "${programs[@]}" ||
+    ./build.sh zompelgors zompelgors_regions "${programs[@]}" ||
         stop 1 "something isn't proved"
 fi
 
@@ -123,7 +123,7 @@ for program in "${programs[@]}"; do
     if [ -f "target/bin/$program" ]; then
         copy libexec/zompelgors "target/bin/$program"
     else
-        [ -n "$trial" ] || stop 1 "rt check made no target/bin/$program"
+        [ -n "$trial" ] || stop 1 "build.sh made no target/bin/$program"
         echo "release.sh: the trial has no program $program, since there is no target/bin/$program" >&2
     fi
 done
@@ -208,7 +208,7 @@ provenance() {
     local changes origin
     changes=$(git status --porcelain | wc -l)
     [ "$changes" -eq 0 ] && changes="as committed" || changes="with changes to $changes files that are not committed"
-    origin="by rt staticlib and rt check in the run that made this release, on $(uname -m)"
+    origin="by rt lib and rt run in the run that made this release, on $(uname -m)"
     [ -z "$trial" ] || origin="a trial: as they lay in a folder. Who made them isn't known, and nothing is said of their proof"
     cat <<PROVENANCE
 Zompelgors $version

@@ -1,7 +1,7 @@
 /*
  * Region names: a second library above zompelgors, for pyramids without contraction.
  *
- * Link target/staticlib/libzompelgors_regions.a (rt staticlib zompelgors_regions), beside libzompelgors.a or without
+ * Link target/staticlib/libzompelgors_regions.a (./build.sh zompelgors_regions), beside libzompelgors.a or without
  * it: each has all that it needs, and they share no name. zompelgors.h says how memory is lent, what is returned and
  * how refusals are named; all of that holds here. zg_regions takes about 16 KiB of stack.
  */

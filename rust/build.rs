@@ -47,7 +47,7 @@ fn link(folder: &Path, library: &str) {
     println!("cargo:rerun-if-changed={}", archive.display());
     if !archive.is_file() {
         println!(
-            "cargo:warning=no {}, so nothing can be linked: make it by 'rt staticlib {library}', or set ZOMPELGORS_LIB to the folder that has it",
+            "cargo:warning=no {}, so nothing can be linked: make it by './build.sh {library}', or set ZOMPELGORS_LIB to the folder that has it",
             archive.display()
         );
     }

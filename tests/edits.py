@@ -1,30 +1,25 @@
 #!/usr/bin/env python3
-"""Reads what the gate says of each wrong program (target/must-fail/CRATE/EDIT/.log) and prints at what each is refused:
-by function, or by the claim on small maps, the needs and named facts that fail by themselves. Those are left out that
-fail because an earlier one was not admitted, or because a position in the code no longer fits.
+"""Reads what the gate says of each wrong program and prints at what each is refused: by function, or by the claim on small
+maps, the goal or fact that it names first.
 
-tests/edits.py [CRATE..]           a line for each edit; fails if one shows nothing, or if docs/CONTRACTS.md or
-                                   docs/DEMANDS.md says otherwise
+tests/edits.py [CRATE..]           a line for each edit; fails if one is not refused, or shows nothing, or if docs/CONTRACTS.md
+                                   or docs/DEMANDS.md says otherwise
 tests/edits.py --write [CRATE..]   writes the last column of the tables there, a row for each edit and no other
 
-`rt ci`, or `rt must-fail CRATE`, writes the logs. An edit without one, or whose crate has changed since, is counted at
-the end and its row stays as it is.
+The log is target/gate.log, or what the variable GATE names: what `.ci/run`, `rt ci CRATE` or `rt must-fail CRATE` printed. An
+edit of which it says nothing, or whose crate has changed since, is counted at the end and its row stays as it is.
 """
+import os
 import re
 import sys
 from pathlib import Path
 
 ROOT = Path(__file__).resolve().parent.parent
 CRATES = ROOT / "crates"
-LOGS = ROOT / "target" / "must-fail"
+LOG = Path(os.environ.get("GATE") or ROOT / "target" / "gate.log")
 PAGES = [ROOT / "docs" / "CONTRACTS.md", ROOT / "docs" / "DEMANDS.md"]
-# of a name that an earlier one made fail, and of a position that the code has no more
-FOLLOWS = re.compile(r"was not admitted|can be named from here|has no field|has no `Need|not in scope|is not defined|cannot be found|where one has `Rattle·\S*\.Lts\.")
 # what small maps are held to, by computation
-CLAIMS = {"small-maps", "small-links", "small-factors", "small-joins", "small-contractions", "small-record", "small-partner", "small-jobs", "small-names", "small-relations", "star-again"}
-FEW = 4
-# of a bound: a sum, a difference, a product, a cast, a shift, an index
-BOUND = re.compile(r"(add|sub|mul|cast|shl|shr|div|rem|shared-slice|slice|array|index)-")
+CLAIMS = {"small_maps", "small_links", "small_factors", "small_joins", "small_contractions", "small_record", "small_partner", "small_jobs", "small_names", "small_relations", "star_again"}
 
 
 def edits():
@@ -32,43 +27,28 @@ def edits():
     return [f"{path.parent.parent.name}/{path.stem}" for path in sorted(CRATES.glob("*/must-fail/*.edit"))]
 
 
-def pairs(path):
-    """(file, old, new) of each replacement of an edit, as rt reads them: a text is the rest of its line."""
-    found, file, old = [], "", ""
-    for line in path.read_text().split("\n"):
-        if line.startswith("file: "):
-            file = line[6:]
-        elif line.startswith("old: "):
-            old = line[5:]
-        elif line.startswith("new:"):
-            found.append((file, old, line[4:].removeprefix(" ")))
-    return found
-
-
 def told(path):
     """What an edit says of itself."""
     return path.read_text().split("\n")[0].removeprefix("# ")
 
 
+def said():
+    """{CRATE/EDIT: what the log says of it last}."""
+    log = LOG.read_text(errors="replace") if LOG.is_file() else ""
+    return dict(re.findall(r"^(?:rt: )?must-fail (\w+/[\w.-]+?)\.edit: (.*)$", log, re.M))
+
+
 def is_current(name):
-    """Is the log of the crate as it stands, with this edit? All files but the edited ones are compared, and these as rt made them."""
+    """Is the log younger than the edit and the crate?"""
     crate, label = name.split("/")
-    tried, edited = LOGS / crate / label, {}
-    for file, old, new in pairs(CRATES / crate / "must-fail" / f"{label}.edit"):
-        text = edited.get(file) or (CRATES / crate / file).read_text()
-        edited[file] = text.replace(old, new or "", 1)
-    for folder in ("src", "specs", "proofs"):
-        for path in (CRATES / crate / folder).rglob("*"):
-            file = str(path.relative_to(CRATES / crate))
-            if path.is_file() and file not in edited and (not (tried / file).is_file() or path.read_text() != (tried / file).read_text()):
-                return False
-    return (tried / ".log").is_file()
+    files = [p for folder in ("src", "specs", "proofs") for p in (CRATES / crate / folder).rglob("*")]
+    return max(p.stat().st_mtime for p in [*files, CRATES / crate / "must-fail" / f"{label}.edit"]) <= LOG.stat().st_mtime
 
 
-def errors(log):
-    """(file, line, column, name, message) of each error of a log."""
-    for m in re.finditer(r"^(/\S+?):(\d+):(\d+): error: (?:`([^`]+)`: )?(.*(?:\n  .*)*)", log, re.M):
-        yield Path(m[1]), int(m[2]), int(m[3]), m[4], m[5]
+def function_at(file, line):
+    """The function of a source in which a line stands."""
+    above = "\n".join(file.read_text().split("\n")[:line])
+    return re.findall(r"^ *(?:pub(?:\(crate\))? )?(?:extern \"C\" )?fn (\w+)", above, re.M)[-1]
 
 
 def field(file, line, column):
@@ -79,33 +59,24 @@ def field(file, line, column):
     return next(m[1] for m in (re.match(r"  ([a-z][\w-]*) =", above) for above in reversed(lines[:line])) if m)
 
 
-def by_claims(name):
-    """Of a wrong definition: {claim: [field]}. A claim is computed, so all of it counts, laws that it cites too."""
-    found = {}
-    for file, line, column, fact, _ in errors((LOGS / name / ".log").read_text()):
-        if fact in CLAIMS and (which := field(file, line, column)) not in found.setdefault(fact, []):
-            found[fact].append(which)
-    return found
-
-
-def by_functions(name):
-    """Of a wrong program: {function or file of laws: [need or law]}, also of functions that need no file of proof; bounds only where nothing else fails."""
-    found, log = {}, (LOGS / name / ".log").read_text()
-    for function, needs in re.findall(r"^fn \S*::(\w+): no proof: .*`search` does not close (.*)$", log, re.M):
-        found[function] = re.findall(r"`([^`]+)`", needs)
-    for file, _, _, fact, message in errors(log):
-        where = file.parts[-2] if file.name == "Proof.antt" else file.stem
-        if fact and not FOLLOWS.search(message.split("\n")[0]) and fact not in found.setdefault(where, []):
-            found[where].append(fact)
-    return {where: [need for need in needs if not BOUND.match(need)] or needs for where, needs in found.items() if needs}
-
-
-def shown(name):
-    """The last column of an edit's row; of many claims the first few."""
+def shown(name, text):
+    """The last column of an edit's row, or nothing: a function or a file of laws, and what is refused of it; of a claim its field."""
+    crate = CRATES / name.split("/")[0]
+    if not text.startswith("refused, as it must be"):
+        return ""
+    place = re.search(r"(?:\./)?((?:src|specs|proofs)/[\w/+.-]*?\.(?:rt|antt)):(\d+):(\d+): (?:error: )?(?:`([^`]+)`: )?(.*)", text)
+    if not place:
+        return ""
+    file, line, column, fact, message = crate / place[1], int(place[2]), int(place[3]), place[4], place[5]
+    if fact in CLAIMS:
+        return f"`{fact}.{field(file, line, column)}`"
     if name.startswith("maps/"):
-        claims = [f"`{where} .{which}`" for where, fields in by_claims(name).items() for which in fields]
-        return ", ".join(claims[:FEW]) + (f" and {len(claims) - FEW} more" if len(claims) > FEW else "")
-    return "; ".join(f"`{where}`: " + ", ".join(f"`{need}`" for need in needs) for where, needs in by_functions(name).items())
+        return f"`{fact}`"
+    if file.suffix == ".rt":
+        goal = re.search(r"\(`([^`]+)`", message)
+        return f"`{function_at(file, line)}`: `{goal[1] if goal else 'returns'}`"
+    where = file.stem if file.parent.name == "proofs" else file.parent.name
+    return f"`{where}`: `{fact}`" if fact else f"`{where}`"
 
 
 # ---- the tables
@@ -151,19 +122,20 @@ def main(words):
     write = "--write" in words
     crates = [word for word in words if word != "--write"]
     wanted = [name for name in edits() if not crates or name.split("/")[0] in crates]
-    seen = {name: shown(name) for name in wanted if is_current(name)}
+    texts = said()
+    seen = {name: shown(name, texts[name]) for name in wanted if name in texts and is_current(name)}
     empty = [name for name in seen if not seen[name]]
     rows = {name: row for page in PAGES for name, row in rows_of(page).items()}
     differ = [name for name in seen if name not in rows or rows[name][1][-1] != seen[name]]
     for name in seen:
-        print(f"{name}: {seen[name] or 'NOTHING: no need fails by itself'}")
+        print(f"{name}: {seen[name] or 'NOTHING: ' + texts[name][:100]}")
     if write:
         for page in PAGES:
             page.write_text(written(page, {name: text for name, text in seen.items() if text}))
     else:
         for name in differ:
             print(f"{page_of(name).relative_to(ROOT)} says otherwise of {name}")
-    print(f"edits: {len(seen)} read, {len(wanted) - len(seen)} without a log of the crate as it is, {len(empty)} that show nothing, {len(differ)} told otherwise")
+    print(f"edits: {len(seen)} read, {len(wanted) - len(seen)} of which no log of the crate as it is says a thing, {len(empty)} that show nothing, {len(differ)} told otherwise")
     return 1 if empty or (differ and not write) else 0
 
 

@@ -1,6 +1,6 @@
 #!/usr/bin/env python3
-"""Holds the declarations that are written by hand to the proved sources: every exported function and every struct of
-crates/*/src against its prototype in include/*.h and its declaration in rust/src/raw.rs, name by name and type by type;
+"""Holds the declarations that are written by hand to the proved sources: every exported function against the library's that
+it hands on to, clause by clause; every exported function and every struct of crates/*/src against its prototype in include/*.h and its declaration in rust/src/raw.rs, name by name and type by type;
 the refusals that the headers name with each function against those that the vectors have of it; and that every function
 has its own on the struct of include/zompelgors_pyramid.h, which tests/pyramid.c calls.
 
@@ -17,7 +17,9 @@ from pathlib import Path
 ROOT = Path(sys.argv[1] if len(sys.argv) > 1 else Path(__file__).parent.parent).resolve()
 # of the sources, and of C
 NUMBERS = {"u8": "uint8_t", "u16": "uint16_t", "u32": "uint32_t", "u64": "uint64_t", "i32": "int32_t", "f64": "double"}
-HEADERS = {"zompelgors": "zompelgors.h", "zompelgors_regions": "zompelgors_regions.h"}
+# of the crate that exports a header's functions, and of the library that it calls
+HEADERS = {"zompelgors_c": "zompelgors.h", "zompelgors_regions_c": "zompelgors_regions.h"}
+LIBRARIES = {name: name.removesuffix("_c") for name in HEADERS}
 # the word of a function's cases in tests/vectors, where it isn't its name
 WORDS = {"marks_of": "marks", "read_by_levels": "bylevels", "mark_cells": "mark"}
 # what a function is refused with, though no vector on file has it: as zg_check
@@ -46,16 +48,36 @@ def exported():
         text = without_comments(path.read_text())
         for name, given, back in re.findall(r'pub extern "C" fn (\w+)\((.*?)\)\s*->\s*(\w+)', text, re.S):
             found[name] = (path.parent.parent.name, [tuple(p.split(": ")) for p in parts(given)], back)
-        marked = len(re.findall(r"#\[no_mangle\]", text))
-        if marked != len(re.findall(r'#\[no_mangle\]\s*pub extern "C" fn \w+\(.*?\)\s*->\s*\w+', text, re.S)):
+        marked = len(re.findall(r"#\[unsafe\(no_mangle\)\]", text))
+        if marked != len(re.findall(r'#\[unsafe\(no_mangle\)\]\s*pub extern "C" fn \w+\(.*?\)\s*->\s*\w+', text, re.S)):
             sys.exit(f"{path}: an exported function isn't understood")
     return found
+
+
+def stated(path, start):
+    """{name: (all between a function's name and its body, the body)} of the functions of a source that begin so."""
+    found = re.findall(rf"^{re.escape(start)} (\w+)(.*?)\n?\{{\n(.*?)^\}}", without_comments(read(path)), re.S | re.M)
+    return {name: (" ".join(head.split()), " ".join(body.split())) for name, head, body in found}
+
+
+def export_differences():
+    """An exported function states what the library's function of its name states, and hands on to it."""
+    for crate, library in LIBRARIES.items():
+        of_crate, of_library = stated(f"crates/{crate}/src/lib.rt", 'pub extern "C" fn'), stated(f"crates/{library}/src/lib.rt", "pub fn")
+        for name in sorted(set(of_crate) ^ {name for name in of_library if name.startswith("zg_")}):
+            yield f"crates/{crate} and crates/{library} differ in {name}"
+        for name, (head, body) in of_crate.items():
+            if head != of_library.get(name, (head, ""))[0]:
+                yield f"crates/{crate}: {name} states something else than crates/{library} does"
+            given = ", ".join(field for field, _ in functions[name][1])
+            if body != f"{library}::{name}({given})":
+                yield f"crates/{crate}: {name} isn't the call of the library's function alone"
 
 
 def laid_out():
     found = {}
     for path in sorted((ROOT / "crates").glob("*/src/*.rt")):
-        for name, fields in re.findall(r"#\[repr\(C\)\]\s*pub struct (\w+) \{(.*?)\}", without_comments(path.read_text()), re.S):
+        for name, fields in re.findall(r"#\[repr\(C\)\]\s*(?:#\[derive\([^)]*\)\]\s*)?pub struct (\w+) \{(.*?)\}", without_comments(path.read_text()), re.S):
             laid = [tuple(p.removeprefix("pub ").split(": ")) for p in parts(fields)]
             if found.setdefault(name, laid) != laid:
                 sys.exit(f"{path}: {name} is laid out otherwise than in another crate")
@@ -170,7 +192,7 @@ def rust_differences(functions, structs):
         yield f"rust/src/raw.rs and crates/ differ in {name}"
     for name in sorted(set(said) & set(functions)):
         crate, given, back = functions[name]
-        feature = crate.removeprefix("zompelgors").removeprefix("_")
+        feature = LIBRARIES[crate].removeprefix("zompelgors").removeprefix("_")
         yield from differ("rust/src/raw.rs", name, [feature, back] + rust_given(given), [said[name][2], said[name][1]] + said[name][0])
     told = rust_structs(text)
     for name in sorted(set(told) ^ set(structs)):
@@ -227,6 +249,6 @@ def struct_differences(functions):
 
 if __name__ == "__main__":
     functions, structs = exported(), laid_out()
-    found = [*c_differences(functions, structs), *rust_differences(functions, structs), *comment_differences(functions), *struct_differences(functions)]
+    found = [*export_differences(), *c_differences(functions, structs), *rust_differences(functions, structs), *comment_differences(functions), *struct_differences(functions)]
     print("\n".join(found + [f"{len(functions)} functions and {len(structs)} structs in C and in Rust, refusals of {len(functions) - 1}: {len(found)} differences"]))
     sys.exit(1 if found else 0)

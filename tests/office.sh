@@ -144,7 +144,7 @@ if [ -n "$have_command" ]; then
         ! able "the station's programs" python3 || report "the station's programs" \
             python3 tests/office_vectors.py programs target/bin "${run[*]}"
     else
-        echo "office, the station's programs: left out, there is no target/bin/levels, census or convert (rt check)"
+        echo "office, the station's programs: left out, there is no target/bin/levels, census or convert (./build.sh)"
         left_out=$((left_out + 1))
     fi
     ! able "text, JSON, CSV" python3 || report "text, JSON, CSV" python3 tests/office_forms.py

@@ -20,7 +20,7 @@ FIGURES = ROOT / "docs" / "figures"
 NAMED_PAGES = ["docs/DEMANDS.md", "docs/CONTRACTS.md", "docs/GLOSSARY.md"]
 TOLD_PAGES = ["README.md", "docs/TOUR.md", "docs/JOBS.md", "docs/CRATES.md", "docs/SCOPE.md", "docs/INTEGRATING.md", "docs/BUDGETS.md", "docs/DECISIONS.md", "docs/TRUST.md"]
 # of the language and the prover; f stands for any function
-LANGUAGE = {"requires", "Learnt", "returns", "loop-holds", "loop-again", "f-requires", "f-one"}
+LANGUAGE = {"requires", "returns", "f_one", "Learnt"}
 # a definition begins so; the other declarations that are public are theorems and fields
 DEFINITION = r"\s*(?:(?:abbrev|unfoldable) (?:pub )?|pub (?:data|record) )(\S+)"
 
@@ -28,15 +28,17 @@ DEFINITION = r"\s*(?:(?:abbrev|unfoldable) (?:pub )?|pub (?:data|record) )(\S+)"
 def public_functions(crate):
     """What a library's lib.rt makes public, by name."""
     source = (CRATES / crate / "src" / "lib.rt").read_text()
-    names = re.findall(r'^pub (?:extern "C" )?fn (\w+)', source, re.M)
-    names += re.findall(r"^pub use \w+::([a-z]\w*);", source, re.M)
+    names = re.findall(r"^pub fn (\w+)", source, re.M)
+    for item in re.findall(r"^pub use \w+::([^;]*);", source, re.M):
+        names += [name for name in re.findall(r"\w+", item) if name[0].islower()]
     return {f"{crate}::{name}" for name in names}
 
 
 @lru_cache(None)
 def all_public():
-    """Of all crates but programs, which is no job: what it prints is compared, not proved."""
-    libraries = {p.parent.parent.name for p in CRATES.glob("*/src/lib.rt")} - {"programs"}
+    """Of all crates but programs, which is no job: what it prints is compared, not proved; and but the archives, whose exports
+    tests/interface.py holds to the libraries'."""
+    libraries = {p.parent.parent.name for p in CRATES.glob("*/src/lib.rt")} - {"programs", "zompelgors_c", "zompelgors_regions_c"}
     return frozenset().union(*map(public_functions, libraries))
 
 
@@ -45,7 +47,7 @@ def signature(name):
     """The file of a public function, and its text up to the body."""
     crate, function = name.split("::")
     for path in sorted((CRATES / crate / "src").glob("*.rt")):
-        m = re.search(rf'^pub (?:extern "C" )?fn {function}\b.*?^{{', path.read_text(), re.M | re.S)
+        m = re.search(rf'^pub fn {function}\b.*?^{{', path.read_text(), re.M | re.S)
         if m:
             return path, m[0]
     raise SystemExit(f"{name} is not found in crates/{crate}/src")
@@ -68,7 +70,7 @@ def text(path):
 def imports(path):
     """{name as used: (file, its name there)} of what a source uses of crates/*/specs and crates/*/proofs."""
     found = {}
-    for crate, folder, file, names in re.findall(r"^(?:ghost )?use Rattle·(\w+)(?:·\w+)?\.(specs|proofs)\.(\w+)\.\{([^}]*)\}", text(path), re.M):
+    for crate, folder, file, names in re.findall(r"^(?:ghost )?use Rattle\.(\w+)\.(specs|proofs)\.(\w+)\.\{([^}]*)\}", text(path), re.M):
         for item in names.split(","):
             first, _, last = item.strip().partition(" as ")
             found[last or first] = (CRATES / crate / folder / f"{file}.antt", first)
@@ -244,11 +246,11 @@ def name_differences():
                 yield f"{page}:{number} names {path.relative_to(ROOT)}, which is no file"
         sources = [path for path in files if path.is_file() and path.suffix in (".antt", ".rt")]
         for name in names:
-            known = name in all_public() if "::" in name else any(set(name.split(" .")) <= declared(path) for path in sources)
+            known = name in all_public() if "::" in name else any(set(name.split(".")) <= declared(path) for path in sources)
             if not known:
                 yield f"{page}:{number}: no file of the row declares {name}"
         for path in sources:
-            if not any(name.split(" .")[0] in declared(path) for name in names):
+            if not any(name.split(".")[0] in declared(path) for name in names):
                 yield f"{page}:{number}: {path.relative_to(ROOT)} declares no name of the row"
 
 
@@ -264,14 +266,18 @@ def contract_differences():
 
 
 def prose_differences():
-    """A name that stands outside those tables is declared somewhere; on other pages, one that is spelt as a theorem is."""
-    known = LANGUAGE.union(*(declared(p) for p in CRATES.glob("*/*/*") if p.suffix in (".antt", ".rt")))
+    """A name that stands outside those tables is declared somewhere; on other pages, one that is spelt as a theorem is, and
+    that neither C nor Rust has."""
+    sources = [p for part in ("src", "specs", "proofs") for p in CRATES.glob(f"*/{part}/*") if p.suffix in (".antt", ".rt")]
+    known = LANGUAGE.union(*map(declared, sources))
+    outside = [ROOT / "crates.txt", *(ROOT / "include").glob("*.h"), *(ROOT / "rust" / "src").glob("*.rs"), ROOT / "rust" / "Cargo.toml", ROOT / "release.sh"]
+    spelt_so = set().union(*(re.findall(r"\w+", text(p)) for p in outside))
     for page in NAMED_PAGES + TOLD_PAGES:
         named = {number for number, _, header, _ in tables(page) if header[-1] in ("File", "Refused at")}
-        spelling = r"`([a-zA-Z_][^`\s:/]*)`" if page in NAMED_PAGES else r"`([a-z]+(?:-[a-z]+)+)`"
+        spelling = r"`([a-zA-Z_][^`\s:/]*)`" if page in NAMED_PAGES else r"`([a-z]+(?:_[a-z]+)+)`"
         for number, line in enumerate((ROOT / page).read_text().split("\n"), 1):
             for name in re.findall(spelling, line) if number not in named else []:
-                if name not in known:
+                if name not in known and (page in NAMED_PAGES or name not in spelt_so):
                     yield f"{page}:{number} names {name}, which nothing declares"
 
 
@@ -296,8 +302,8 @@ def is_used(path, number, indent, name):
 
 def law_differences():
     """A law that is public is cited: by another source, by another law of its file, or by a page. Those of one outcome have their own test."""
-    cited = set().union(*(imports(p).values() for p in CRATES.rglob("*") if p.suffix in (".antt", ".rt")))
-    told = set(re.findall(r"`([^`\s]+)(?: \.[^`]*)?`", "".join((ROOT / page).read_text() for page in NAMED_PAGES + TOLD_PAGES)))
+    cited = set().union(*(imports(p).values() for p in CRATES.rglob("*") if p.suffix in (".antt", ".rt") and "out" not in p.parts))
+    told = set(re.findall(r"`([^`\s.]+)(?:\.[^`\s]*)?`", "".join((ROOT / page).read_text() for page in NAMED_PAGES + TOLD_PAGES)))
     for path in sorted(CRATES.glob("*/proofs/*.antt")):
         if path.parent.parent.name == "outcomes" and path.stem in ("Jobs", "Interface"):
             continue
@@ -330,7 +336,7 @@ def edit_differences():
                     yield f"{page}:{number}: refused at no function of the crate"
                 claims = frozenset().union(*(declared(p) for p in (CRATES / "maps" / "proofs").glob("*.antt")))
                 for name in re.findall(r"`([^`]+)`", row[-1]) if edit.startswith("maps/") else []:
-                    if not set(name.split(" .")) <= claims:
+                    if not set(name.split(".")) <= claims:
                         yield f"{page}:{number}: crates/maps/proofs has no claim {name}"
     for name in sorted(edits ^ told):
         yield f"the pages and must-fail/ differ in {name}"
@@ -347,11 +353,11 @@ def spelt(variant):
 def header_differences():
     header = (ROOT / "include" / "zompelgors.h").read_text()
     numbers = (CRATES / "answers" / "specs" / "Numbers.antt").read_text()
-    due = [("ZG_ACCEPTED", "0")] + [(spelt(name), k) for name, k in re.findall(r"^refusalOf \(?(\w+).* = refused (\d+)", numbers, re.M)]
+    due = [("ZG_ACCEPTED", "0")] + [(spelt(name), k) for name, k in re.findall(r"^refusal_of \(?(\w+).* = refused (\d+)", numbers, re.M)]
     if re.findall(r"^ +(ZG_\w+) = (\d+)", header, re.M) != due:
         yield "include/zompelgors.h names the numbers otherwise than crates/answers does"
     parts = re.findall(r"^#define ZG_VERSION_(?:MAJOR|MINOR|PATCH) (\d+)", header, re.M)
-    if f"versionFor {' '.join(parts)} " not in (CRATES / "zompelgors" / "src" / "lib.rt").read_text():
+    if f"version_for {' '.join(parts)} " not in (CRATES / "zompelgors" / "src" / "lib.rt").read_text():
         yield "include/zompelgors.h and zg_version are of two versions"
     for path in sorted((ROOT / "include").glob("*.h")):
         for number, line in enumerate(path.read_text().split("\n"), 1):
@@ -375,7 +381,7 @@ OUTSIDE = {"facts": "AcceptedWalks", "orbits": "OrbitLaws"}
 def outside_differences():
     """The region crate sees only contracts: of facts and orbits its proofs use one file each, and definitions."""
     for path in sorted((CRATES / "regions").rglob("*.antt")):
-        for crate, name in re.findall(r"^use Rattle·(facts|orbits)\.proofs\.(\w+)", path.read_text(), re.M):
+        for crate, name in re.findall(r"^use Rattle\.(facts|orbits)\.proofs\.(\w+)", path.read_text(), re.M):
             if name != OUTSIDE[crate]:
                 yield f"{path.relative_to(ROOT)} uses {name}, from inside {crate}"
 
@@ -390,7 +396,7 @@ def function_differences():
         yield f"docs/CONTRACTS.md and the sources differ in the public function {name}"
     theorems = "".join((CRATES / "outcomes" / "proofs" / f).read_text() for f in ("Jobs.antt", "Interface.antt"))
     for name in sorted(name for name in all_public() if not asks_its_caller(name)):
-        theorem = name.split("::")[1].replace("_", "-") + "-one"
+        theorem = name.split("::")[1] + "_one"
         if not re.search(rf"^pub {re.escape(theorem)} :", theorems, re.M):
             yield f"there is no theorem {theorem} of {name}"
 

@@ -12,7 +12,8 @@ from pathlib import Path
 
 ROOT = Path(__file__).resolve().parent.parent
 C, REGIONS, RUST = "include/zompelgors.h", "include/zompelgors_regions.h", "rust/src/raw.rs"
-STRUCT, SOURCE, ANSWERS = "include/zompelgors_pyramid.h", "crates/zompelgors/src/lib.rt", "crates/interface/src/lib.rt"
+STRUCT, SOURCE, ANSWERS = "include/zompelgors_pyramid.h", "crates/zompelgors_c/src/lib.rt", "crates/interface/src/lib.rt"
+LIBRARY, NAMES = "crates/zompelgors/src/lib.rt", "crates/zompelgors_regions_c/src/lib.rt"
 # (file, the function or struct in which it is planted, what stands there, what is put there)
 FAULTS = [
     (C, "zg_refusal zg_check(", "const uint8_t *lambda", "uint8_t *lambda"),
@@ -42,6 +43,11 @@ FAULTS = [
     (RUST, "pub fn zg_export(", "zg_export", "zg_exports"),
     (SOURCE, "fn zg_survivors(", "&mut [u64]", "&mut [u32]"),
     (SOURCE, "fn zg_check_base(", "rows: &[u16]", "rows: &mut [u16]"),
+    (SOURCE, "fn zg_join(", "join_leaves", "join_lambda"),
+    (SOURCE, "fn zg_decimation(", "table, level)", "table, h)"),
+    (LIBRARY, "fn zg_unfold(", "ensures table_left", "ensures rest_left"),
+    (LIBRARY, "fn zg_import(", "m: u16", "m: u32"),
+    (NAMES, "fn zg_regions(", "zompelgors_regions::zg_regions(n, darts, h,", "zompelgors_regions::zg_regions(h, darts, n,"),
     (ANSWERS, "pub struct ZgLink", "pub since: u8", "pub since: u16"),
 ]
 

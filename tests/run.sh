@@ -206,7 +206,7 @@ program() {
     local title=$1 which=$2 word=$3 name=$4
     shift 4
     if [ ! -f "target/bin/$name" ]; then
-        leave "$title" "there is no target/bin/$name (rt check $name)"
+        leave "$title" "there is no target/bin/$name (./build.sh $name)"
     elif can "$title" python3 "${for_c[@]}"; then
         tests/programs.py answers "$word" "$@" >"$BUILD/$which.answers"
         same "$title" "$BUILD/$which.out" "$BUILD/$which.answers" \
@@ -239,7 +239,7 @@ part_programs() {
     if [ -f target/bin/levels ] && [ -f target/bin/census ] && [ -f target/bin/convert ]; then
         report "program.sh" "$BUILD/program.txt" tests/program.sh "$BUILD/program" "${run[@]}"
     else
-        leave "program.sh" "there are no programs in target/bin (rt check levels census convert)"
+        leave "program.sh" "there are no programs in target/bin (./build.sh levels census convert)"
     fi
 }
 

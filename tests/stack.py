@@ -83,7 +83,7 @@ def stack(name, functions):
 
 library = sys.argv[1] if len(sys.argv) > 1 else "target/staticlib/libzompelgors.a"
 if not os.path.isfile(library):
-    sys.exit(f"there is no {library}: 'rt staticlib zompelgors' makes target/staticlib/libzompelgors.a")
+    sys.exit(f"there is no {library}: './build.sh zompelgors' makes target/staticlib/libzompelgors.a")
 functions = disassembled(library)
 for name in sorted(functions):
     if name.startswith("zg_"):

@@ -94,7 +94,7 @@ library() {
     local archive
     for archive in "${LIBS[@]}"; do
         [ ! -f "$archive" ] || continue
-        echo "there is no $archive; 'rt staticlib zompelgors' and 'rt staticlib zompelgors_regions' make both" >&2
+        echo "there is no $archive; './build.sh zompelgors zompelgors_regions' makes both" >&2
         exit 2
     done
 }

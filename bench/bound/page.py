@@ -42,16 +42,16 @@ LENT = {
 # Base entries read: of what, at most how many, for n = 4 and N = 4,096, and where it is said.
 READS = [
     ("zg_read, zg_read_by_levels, of an accepted pyramid", "1 + 2g", 8191,
-     "`few` of `facts` in crates/facts/proofs/Facts.antt; of the jobs `accepted-facts` with `accepted-read` and "
-     "`accepted-by-levels` in AcceptedJobs.antt"),
+     "`few` of `facts` in crates/facts/proofs/Facts.antt; of the jobs `accepted_facts` with `accepted_read` and "
+     "`accepted_by_levels` in AcceptedJobs.antt"),
     ("zg_unfold, of an accepted pyramid", "(n+1)·survivors + 2g, so never more than (n+1)N", 20480,
-     "`accepted-total` in AcceptedJobs.antt, from `cost-bound` in Costs.antt"),
+     "`accepted_total` in AcceptedJobs.antt, from `cost_bound` in Costs.antt"),
     ("zg_read, on any tables", "1 + 2N, then refused 15", 8193,
      "the definition `walk` in crates/maps/specs/Walk.antt, which its contract cites"),
     ("zg_read_by_levels, on any tables", "1 + 2N, then refused 15", 8193,
-     "`readBase` in ByLevels.antt and `any-tables` in AnyTables.antt"),
+     "`read_base` in ByLevels.antt and `any_tables` in AnyTables.antt"),
     ("zg_unfold, on any tables", "(n+1)N(1 + 2N)", 167792640,
-     "one walk for each entry, up to the first refusal: the definitions `walk` and `unfoldLent`"),
+     "one walk for each entry, up to the first refusal: the definitions `walk` and `unfold_lent`"),
 ]
 
 # ---------------------------------------------------------------- texts
@@ -82,7 +82,7 @@ READS_TEXT = """
 ## Proved: base entries read
 
 A walk's count is the number of base entries that it reads; that the code reads each of them once is seen in its loop (docs/TRUST.md: a contract can't forbid work that is thrown away).
-A pyramid is accepted when zg_take or zg_check gave 0 for it, or zg_add or zg_join gave 0, and nothing wrote its rows, Λ or Δ since (`accepted-pyramid` in AcceptedJobs.antt, `add-pyramid` in AddedJobs.antt, `taken-both` in crates/taking/proofs/Joined.antt, `join-joins` in JoinedJobs.antt); zg_rebase leaves one too (`packed-again` in crates/starting_again/proofs/PackedAgain.antt).
+A pyramid is accepted when zg_take or zg_check gave 0 for it, or zg_add or zg_join gave 0, and nothing wrote its rows, Λ or Δ since (`accepted_pyramid` in AcceptedJobs.antt, `add_pyramid` in AddedJobs.antt, `taken_both` in crates/taking/proofs/Joined.antt, `join_joins` in JoinedJobs.antt); zg_rebase leaves one too (`packed_again` in crates/starting_again/proofs/PackedAgain.antt).
 So check once what comes from outside, and budget by the first two lines.
 """
 
@@ -102,8 +102,8 @@ Those of marking, joining, starting again and region names are of what the loops
 """
 
 ENTRIES_BEHIND = """
-The laws behind them: `strung-turns` and `along-all`, each dart of a kernel once in its string (Strings.antt); `run-queued` and `run-within`, searches over one set of flags queue each dart once (Queues.antt); `orbit-searched`, a search is what the contract of `orbit` leaves (Searching.antt); `walk-unlimited`, the limit of turns in the definition of a reading by levels is never reached (ByLevels.antt).
-The definitions are held by `small-strings`, `small-levels`, `small-walk`, `small-stop`, `small-count` and `small-marking` (Small.antt).
+The laws behind them: `strung_turns` and `along_all`, each dart of a kernel once in its string (Strings.antt); `run_queued` and `run_within`, searches over one set of flags queue each dart once (Queues.antt); `orbit_searched`, a search is what the contract of `orbit` leaves (Searching.antt); `walk_unlimited`, the limit of turns in the definition of a reading by levels is never reached (ByLevels.antt).
+The definitions are held by `small_strings`, `small_levels`, `small_walk`, `small_stop`, `small_count` and `small_marking` (Small.antt).
 """
 
 BOUNDS_TEXT = """
@@ -322,17 +322,17 @@ def archives(tool):
 
 
 ENTRIES = [
-    ("a check; taking, writing, decimation, a census, starting again and regions begin or end with one", "(2n+8)g; (n+8)g where no kernel is refused", "`check-reads`, `check-accepted` in Entries.antt"),
-    ("zg_add", "(2n+8)g, with g of the mark row too", "`add-reads` in Adds.antt"),
-    ("zg_read", "1 + 2N; where a neighbour is found, the count answered", "`walk-entries`, `found-entries` in Walks.antt"),
-    ("zg_unfold", "(n+1)N(1 + 2N); of accepted pyramids as above", "`level-entries` in Walks.antt"),
-    ("zg_unfold_all", "no theorem adds them up: its tests read as a check's, and its sums turn g times at most, four entries a turn as seen in the code", "`check-reads` in Entries.antt, `pyramid-turns` in crates/facts/proofs/Turns.antt"),
-    ("zg_read_by_levels", "1 + 2N; at most l calls above level 0 for each entry and one more; of accepted pyramids the direct walk's count", "`levels-work`, `calls-above`, `accepted-work` in ByLevels.antt"),
-    ("zg_mark_cells", "3(n+1)N in its searches", "`marking-queues` in Searches.antt"),
-    ("zg_census", "2(2n+8)g + n(n+1)s", "`census-reads` in Jobs.antt"),
-    ("zg_join", "(3n+8)g; refused (5n+16)g", "`join-reads`, `join-reads-refused` in Jobs.antt"),
-    ("zg_rebase", "(2n+12)g", "`rebase-reads` in Jobs.antt"),
-    ("zg_regions", "(2n+8)g + (n+1)N", "`regions-reads` in Jobs.antt"),
+    ("a check; taking, writing, decimation, a census, starting again and regions begin or end with one", "(2n+8)g; (n+8)g where no kernel is refused", "`check_reads_lem`, `check_accepted` in Entries.antt"),
+    ("zg_add", "(2n+8)g, with g of the mark row too", "`add_reads_lem` in Adds.antt"),
+    ("zg_read", "1 + 2N; where a neighbour is found, the count answered", "`walk_entries_lem`, `found_entries` in Walks.antt"),
+    ("zg_unfold", "(n+1)N(1 + 2N); of accepted pyramids as above", "`level_entries_lem` in Walks.antt"),
+    ("zg_unfold_all", "no theorem adds them up: its tests read as a check's, and its sums turn g times at most, four entries a turn as seen in the code", "`check_reads_lem` in Entries.antt, `pyramid_turns` in crates/facts/proofs/Turns.antt"),
+    ("zg_read_by_levels", "1 + 2N; at most l calls above level 0 for each entry and one more; of accepted pyramids the direct walk's count", "`levels_work`, `calls_above`, `accepted_work` in ByLevels.antt"),
+    ("zg_mark_cells", "3(n+1)N in its searches", "`marking_queues` in Searches.antt"),
+    ("zg_census", "2(2n+8)g + n(n+1)s", "`census_reads` in Jobs.antt"),
+    ("zg_join", "(3n+8)g; refused (5n+16)g", "`join_reads`, `join_reads_refused` in Jobs.antt"),
+    ("zg_rebase", "(2n+12)g", "`rebase_reads` in Jobs.antt"),
+    ("zg_regions", "(2n+8)g + (n+1)N", "`regions_reads` in Jobs.antt"),
 ]
 
 

@@ -16,7 +16,7 @@ THEORY, CODE, OUTSIDE = "kernel1", "grid", "kernel0"
 @lru_cache(None)
 def listed():
     """{crate: (what it holds, the crates of the repository that it names)}, in the order of crates.txt."""
-    found = re.findall(r"^# (.*)\n(\w+):(.*)$", (ROOT / "crates.txt").read_text(), re.M)
+    found = re.findall(r"^# (.*)\n(\w+)(?: staticlib)?:(.*)$", (ROOT / "crates.txt").read_text(), re.M)
     names = {name for _, name, _ in found}
     return {name: (said, [d for d in deps.split() if d in names]) for said, name, deps in found}
 
@@ -43,7 +43,7 @@ def kind(name):
     said = listed()[name][0]
     if "no function" in said:
         return THEORY
-    return OUTSIDE if re.match(r"the C interface|the program |what the programs", said) else CODE
+    return OUTSIDE if re.match(r"the C interface|the archive |the program |what the programs", said) else CODE
 
 
 # ---- floors

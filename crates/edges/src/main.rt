@@ -1,31 +1,30 @@
 // Runs the examples of the scope document that are not proved, the unchecked reading and the edges, and prints each answer on a line.
-// Assumes the contract of write.
+// What is printed no contract can say.
 #![tactic(auto)]
+
 ghost use Rattle.std.specs.Prelude.{◌<◌};
 
 use answers::{Check, Dim, Level, Question, Refusal, Sizes};
+use std::io;
 
 // What was tried, and its answer: taken, or refused with number, level, involution and dart.
-fn taken(name: &[u8]) {
-    io::write_all(1, name);
-    io::write_all(1, b": taken\n");
+fn taken(to: &impl Print, name: &str) -> io::Result<()> {
+    println!(to; "{name}: taken")
 }
 
-fn converted(name: &[u8]) {
-    io::write_all(1, name);
-    io::write_all(1, b": converted\n");
+fn converted(to: &impl Print, name: &str) -> io::Result<()> {
+    println!(to; "{name}: converted")
 }
 
-fn refused(name: &[u8], refusal: Refusal) {
-    io::write_all(1, name);
-    io::write_all(1, b": ");
-    programs::refuse(1, refusal);
+fn refused(to: &impl Print, name: &str, refusal: Refusal) -> io::Result<()> {
+    print!(to; "{name}: ")?;
+    programs::refuse(to, refusal)
 }
 
-fn checked(name: &[u8], check: Check) {
+fn checked(to: &impl Print, name: &str, check: Check) -> io::Result<()> {
     match check {
-        Check::Accepted => taken(name),
-        Check::Refused(r) => refused(name, r),
+        Check::Accepted => taken(to, name),
+        Check::Refused(r) => refused(to, name, r),
     }
 }
 
@@ -52,7 +51,7 @@ fn free_rows(darts: u16, rows: &mut [u16])
 }
 
 // n=1, N=2, a0 = 1 1, a1 = 0 1, h=1, dart 1 removed: a0 of 0 at level 1.
-fn unchecked_reading() {
+fn unchecked_reading(to: &impl Print) -> io::Result<()> {
     match reading::read(
         Sizes {
             n: Dim(1),
@@ -68,29 +67,30 @@ fn unchecked_reading() {
             dart: 0,
         },
     ) {
-        reading::Reading::Found(_) => taken(b"unchecked reading"),
-        reading::Reading::Refused(r) => refused(b"unchecked reading", r),
+        reading::Reading::Found(_) => taken(to, "unchecked reading"),
+        reading::Reading::Refused(r) => refused(to, "unchecked reading", r),
     }
 }
 
-fn dimensions() {
-    checked(b"n 4", bases::check_base(Dim(4), 1, &[0u16; 5]));
-    checked(b"n 5", bases::check_base(Dim(5), 1, &[0u16; 6]));
+fn dimensions(to: &impl Print) -> io::Result<()> {
+    checked(to, "n 4", bases::check_base(Dim(4), 1, &[0u16; 5]))?;
+    checked(to, "n 5", bases::check_base(Dim(5), 1, &[0u16; 6]))
 }
 
-fn darts() {
+fn darts(to: &impl Print) -> io::Result<()> {
     let mut rows = [0u16; 8192];
     free_rows(4096, &mut rows);
-    checked(b"N 4096", bases::check_base(Dim(1), 4096, &rows));
+    checked(to, "N 4096", bases::check_base(Dim(1), 4096, &rows))?;
     let mut more = [0u16; 8194];
     free_rows(4097, &mut more);
-    checked(b"N 4097", bases::check_base(Dim(1), 4097, &more));
+    checked(to, "N 4097", bases::check_base(Dim(1), 4097, &more))
 }
 
-fn heights() {
+fn heights(to: &impl Print) -> io::Result<()> {
     let mut table = [0u16; 2];
     checked(
-        b"h 32",
+        to,
+        "h 32",
         checking::check(
             Sizes {
                 n: Dim(1),
@@ -102,9 +102,10 @@ fn heights() {
             &[1u8],
             &mut table,
         ),
-    );
+    )?;
     checked(
-        b"h 33",
+        to,
+        "h 33",
         checking::check(
             Sizes {
                 n: Dim(1),
@@ -116,11 +117,11 @@ fn heights() {
             &[1u8],
             &mut table,
         ),
-    );
+    )
 }
 
 // A level added at height h, on one dart that stays.
-fn added(name: &[u8], h: Level) {
+fn added(to: &impl Print, name: &str, h: Level) -> io::Result<()> {
     let mut lambda = [0u8; 1];
     lambda[0] = h.0;
     let mut delta = [1u8; 1];
@@ -137,39 +138,40 @@ fn added(name: &[u8], h: Level) {
         &[255u8],
         &mut table,
     ) {
-        checking::Height::Now(_) => taken(name),
-        checking::Height::Refused(r) => refused(name, r),
+        checking::Height::Now(_) => taken(to, name),
+        checking::Height::Refused(r) => refused(to, name, r),
     }
 }
 
 // What is converted: the first bytes of a buffer.
-fn convert_part(name: &[u8], bytes: &[u8], length: usize) {
+fn convert_part(to: &impl Print, name: &str, bytes: &[u8], length: usize) -> io::Result<()> {
     let mut rows = [0u16; 514];
     let mut lambda = [0u8; 257];
     let mut delta = [0u8; 257];
     let mut table = [0u16; 514];
     let mut new = [0u8; 1600];
-    if length <= bytes.len() {
-        match converting::convert(
-            &bytes[..length],
-            &mut rows,
-            &mut lambda,
-            &mut delta,
-            &mut table,
-            &mut new,
-        ) {
-            writing::Written::Bytes(_) => converted(name),
-            writing::Written::Refused(r) => refused(name, r),
-        }
+    if length > bytes.len() {
+        return Ok(());
+    }
+    match converting::convert(
+        &bytes[..length],
+        &mut rows,
+        &mut lambda,
+        &mut delta,
+        &mut table,
+        &mut new,
+    ) {
+        writing::Written::Bytes(_) => converted(to, name),
+        writing::Written::Refused(r) => refused(to, name, r),
     }
 }
 
-fn convert_front(name: &[u8], bytes: &[u8; 1050], length: usize) {
-    convert_part(name, bytes, length);
+fn convert_front(to: &impl Print, name: &str, bytes: &[u8; 1050], length: usize) -> io::Result<()> {
+    convert_part(to, name, bytes, length)
 }
 
 // An old record, with rows of one byte an entry, in which every dart is its own neighbour: n = 1, h = 0, N = low + 256 high.
-fn one_byte_rows(name: &[u8], low: u8, high: u8) {
+fn one_byte_rows(to: &impl Print, name: &str, low: u8, high: u8) -> io::Result<()> {
     let mut bytes = [0u8; 1050];
     let size = low as usize + 256 * high as usize + 3;
     bytes[0] = 1;
@@ -185,7 +187,7 @@ fn one_byte_rows(name: &[u8], low: u8, high: u8) {
     marks_from(&mut bytes, 10 + 2 * size, 0);
     field(&mut bytes, 7 + 3 * size, 0x31, low, high);
     marks_from(&mut bytes, 10 + 3 * size, 1);
-    convert_front(name, &bytes, 7 + 4 * size);
+    convert_front(to, name, &bytes, 7 + 4 * size)
 }
 
 // A field's tag and length.
@@ -211,13 +213,13 @@ fn marks_from(bytes: &mut [u8; 1050], from: usize, mark: u8) {
     }
 }
 
-fn main() {
-    unchecked_reading();
-    dimensions();
-    darts();
-    heights();
-    added(b"added at h 31", Level(31));
-    added(b"added at h 32", Level(32));
-    one_byte_rows(b"one-byte rows at N 256", 0, 1);
-    one_byte_rows(b"one-byte rows at N 257", 1, 1);
+fn main(rt: HostRuntime) -> io::Result<()> {
+    unchecked_reading(&rt)?;
+    dimensions(&rt)?;
+    darts(&rt)?;
+    heights(&rt)?;
+    added(&rt, "added at h 31", Level(31))?;
+    added(&rt, "added at h 32", Level(32))?;
+    one_byte_rows(&rt, "one-byte rows at N 256", 0, 1)?;
+    one_byte_rows(&rt, "one-byte rows at N 257", 1, 1)
 }

@@ -1,5 +1,6 @@
 // The C interface of the jobs: pointers with lengths, structs by value. Assumes nothing of a caller beyond pointers that are good for the lengths given.
 #![tactic(auto)]
+
 ghost use Rattle.std.specs.Prelude.{◌≡◌};
 ghost use Rattle.maps.specs.CheckBase.{check_base};
 ghost use Rattle.maps.specs.CheckPyramid.{check_lent, check_leaves};
@@ -37,24 +38,21 @@ use interface::{
 use unfolding::unfold_all;
 
 // The version of this interface: its three numbers as one.
-#[unsafe(no_mangle)]
-pub extern "C" fn zg_version() -> u32
+pub fn zg_version() -> u32
     ensures { result ≡ version_for 6 3 0 }
 {
     interface::version()
 }
 
 // Checks a base.
-#[unsafe(no_mangle)]
-pub extern "C" fn zg_check_base(n: u8, darts: u16, rows: &[u16]) -> ZgRefusal
+pub fn zg_check_base(n: u8, darts: u16, rows: &[u16]) -> ZgRefusal
     ensures { result ≡ refusal_for (check_base n darts rows.now) }
 {
     refusal_as(bases::check_base(Dim(n), darts, rows))
 }
 
 // Checks a whole pyramid.
-#[unsafe(no_mangle)]
-pub extern "C" fn zg_check(
+pub fn zg_check(
     n: u8,
     darts: u16,
     h: u8,
@@ -75,8 +73,7 @@ pub extern "C" fn zg_check(
 }
 
 // Adds a level on top.
-#[unsafe(no_mangle)]
-pub extern "C" fn zg_add(
+pub fn zg_add(
     n: u8,
     darts: u16,
     h: u8,
@@ -103,8 +100,7 @@ pub extern "C" fn zg_add(
 }
 
 // Reads the mark row of a level back.
-#[unsafe(no_mangle)]
-pub extern "C" fn zg_marks_of(
+pub fn zg_marks_of(
     n: u8,
     darts: u16,
     h: u8,
@@ -125,8 +121,7 @@ pub extern "C" fn zg_marks_of(
 }
 
 // Reads one neighbour on a level by the direct walk, and since which level the link stands.
-#[unsafe(no_mangle)]
-pub extern "C" fn zg_read(
+pub fn zg_read(
     n: u8,
     darts: u16,
     h: u8,
@@ -158,8 +153,7 @@ pub extern "C" fn zg_read(
 }
 
 // Reads one neighbour on a level by readings one level lower each.
-#[unsafe(no_mangle)]
-pub extern "C" fn zg_read_by_levels(
+pub fn zg_read_by_levels(
     n: u8,
     darts: u16,
     h: u8,
@@ -191,8 +185,7 @@ pub extern "C" fn zg_read_by_levels(
 }
 
 // Unfolds a whole level.
-#[unsafe(no_mangle)]
-pub extern "C" fn zg_unfold(
+pub fn zg_unfold(
     n: u8,
     darts: u16,
     h: u8,
@@ -214,8 +207,7 @@ pub extern "C" fn zg_unfold(
 }
 
 // Checks a whole pyramid and unfolds all its levels, each in a block of its own, with the counts and the levels since which.
-#[unsafe(no_mangle)]
-pub extern "C" fn zg_unfold_all(
+pub fn zg_unfold_all(
     n: u8,
     darts: u16,
     h: u8,
@@ -240,8 +232,7 @@ pub extern "C" fn zg_unfold_all(
 }
 
 // Says where a row of a level lies.
-#[unsafe(no_mangle)]
-pub extern "C" fn zg_row(
+pub fn zg_row(
     n: u8,
     darts: u16,
     h: u8,
@@ -266,14 +257,7 @@ pub extern "C" fn zg_row(
 }
 
 // The survivor words of a level.
-#[unsafe(no_mangle)]
-pub extern "C" fn zg_survivors(
-    darts: u16,
-    h: u8,
-    lambda: &[u8],
-    level: u8,
-    words: &mut [u64],
-) -> ZgCount
+pub fn zg_survivors(darts: u16, h: u8, lambda: &[u8], level: u8, words: &mut [u64]) -> ZgCount
     ensures answer { result ≡ count_for (survivors_lent darts h lambda.now level words.old) (survivor_count darts h lambda.now level words.old) }
     ensures words_left { words.new ≡ survivor_words darts h lambda.now level words.old }
 {
@@ -281,14 +265,7 @@ pub extern "C" fn zg_survivors(
 }
 
 // Marks cells of one dimension on an explicit level: those that are removable and fall into two parts, but for one of each piece that would vanish.
-#[unsafe(no_mangle)]
-pub extern "C" fn zg_mark_cells(
-    n: u8,
-    darts: u16,
-    table: &[u16],
-    dimension: u8,
-    marks: &mut [u8],
-) -> ZgRefusal
+pub fn zg_mark_cells(n: u8, darts: u16, table: &[u16], dimension: u8, marks: &mut [u8]) -> ZgRefusal
     ensures answer { result ≡ refusal_for (mark_lent n darts table.now dimension marks.old) }
     ensures marks_left { MarkLeaves n darts table.now dimension marks.old (mark_lent n darts table.now dimension marks.old) marks.new }
 {
@@ -296,8 +273,7 @@ pub extern "C" fn zg_mark_cells(
 }
 
 // Takes a record into lent memory and checks its pyramid; after 5 to 10 rows and marks hold what the record said.
-#[unsafe(no_mangle)]
-pub extern "C" fn zg_take(
+pub fn zg_take(
     bytes: &[u8],
     rows: &mut [u16],
     lambda: &mut [u8],
@@ -314,8 +290,7 @@ pub extern "C" fn zg_take(
 }
 
 // Writes the record of an accepted pyramid into a lent buffer; the table is left as the check leaves it.
-#[unsafe(no_mangle)]
-pub extern "C" fn zg_write(
+pub fn zg_write(
     n: u8,
     darts: u16,
     h: u8,
@@ -338,8 +313,7 @@ pub extern "C" fn zg_write(
 }
 
 // By which factor an accepted pyramid shrinks from a level to the next; the table is left as the check leaves it.
-#[unsafe(no_mangle)]
-pub extern "C" fn zg_decimation(
+pub fn zg_decimation(
     n: u8,
     darts: u16,
     h: u8,
@@ -361,8 +335,7 @@ pub extern "C" fn zg_decimation(
 }
 
 // A census of an accepted pyramid, into 33 rows of five counts and 33 sums; the table is left as the check leaves it.
-#[unsafe(no_mangle)]
-pub extern "C" fn zg_census(
+pub fn zg_census(
     n: u8,
     darts: u16,
     h: u8,
@@ -386,8 +359,7 @@ pub extern "C" fn zg_census(
 }
 
 // Brings in a 2D combinatorial map of m darts as the rows of a base of 2m darts.
-#[unsafe(no_mangle)]
-pub extern "C" fn zg_import(m: u16, edges: &[u16], vertices: &[u16], rows: &mut [u16]) -> ZgRefusal
+pub fn zg_import(m: u16, edges: &[u16], vertices: &[u16], rows: &mut [u16]) -> ZgRefusal
     ensures answer { result ≡ refusal_for (import_lent m edges.now vertices.now rows.old) }
     ensures rows_left { ImportLeft m edges.now vertices.now rows.old rows.new }
 {
@@ -395,8 +367,7 @@ pub extern "C" fn zg_import(m: u16, edges: &[u16], vertices: &[u16], rows: &mut 
 }
 
 // Takes a base back to the two rows that yield it.
-#[unsafe(no_mangle)]
-pub extern "C" fn zg_export(
+pub fn zg_export(
     n: u8,
     darts: u16,
     rows: &[u16],
@@ -409,8 +380,7 @@ pub extern "C" fn zg_export(
 }
 
 // Joins the kernels of a level and the next of an accepted pyramid; Λ and the height fall.
-#[unsafe(no_mangle)]
-pub extern "C" fn zg_join(
+pub fn zg_join(
     n: u8,
     darts: u16,
     h: u8,
@@ -436,8 +406,7 @@ pub extern "C" fn zg_join(
 }
 
 // Starts again from a level of an accepted pyramid; the table is left as the check leaves it.
-#[unsafe(no_mangle)]
-pub extern "C" fn zg_rebase(
+pub fn zg_rebase(
     n: u8,
     darts: u16,
     h: u8,

@@ -1,5 +1,6 @@
 // The C interface of the second library: region names. Assumes nothing of a caller beyond pointers that are good for the lengths given.
 #![tactic(auto)]
+
 ghost use Rattle.std.specs.Prelude.{◌≡◌};
 ghost use Rattle.maps.specs.Regions.{regions_lent, regions_table};
 ghost use Rattle.answers.specs.Pyramid.{given};
@@ -43,8 +44,7 @@ fn refusal_as(answer: Check) -> ZgRefusal
 }
 
 // Names the regions of a level.
-#[unsafe(no_mangle)]
-pub extern "C" fn zg_regions(
+pub fn zg_regions(
     n: u8,
     darts: u16,
     h: u8,
