@@ -134,7 +134,7 @@ zg_decimation_one κs = one_outcome _ _ _ (λ a r. r) (λ r. r) (λ a r. refl) _
 -- the table, the counts and the sums, of which the contract says what they count
 pub zg_census_one : (κs : Lfts 6) → OneOutcome (census.Learnt κs) (λ r. r) (λ s. three s.1.1.1.1.1.1.0.now s.1.1.1.1.1.1.1.0.now s.1.1.1.1.1.1.1.1.0.now)
 zg_census_one κs a r r' s s' c c' =
-    let w = put_leaves_one (given a.0 a.1.0 a.1.1.0 a.1.1.1.0 a.1.1.1.1.0 a.1.1.1.1.1.0) (census_lent (given a.0 a.1.0 a.1.1.0 a.1.1.1.0 a.1.1.1.1.0 a.1.1.1.1.1.0) a.1.1.1.1.1.1.0.now a.1.1.1.1.1.1.1.0.now a.1.1.1.1.1.1.1.1.0.now) a.1.1.1.1.1.1.1.0.now a.1.1.1.1.1.1.1.1.0.now _ _ _ _ c.1.1 c'.1.1 in
+    let w = put_leaves_one (given a.0 a.1.0 a.1.1.0 a.1.1.1.0.now a.1.1.1.1.0.now a.1.1.1.1.1.0.now) (census_lent (given a.0 a.1.0 a.1.1.0 a.1.1.1.0.now a.1.1.1.1.0.now a.1.1.1.1.1.0.now) a.1.1.1.1.1.1.0.now a.1.1.1.1.1.1.1.0.now a.1.1.1.1.1.1.1.1.0.now) a.1.1.1.1.1.1.1.0.now a.1.1.1.1.1.1.1.1.0.now _ _ _ _ c.1.1 c'.1.1 in
     (c.0 ∙ sym c'.0, same_three (c.1.0 ∙ sym c'.1.0) w.0 w.1)
 
 -- the base rows
@@ -150,7 +150,7 @@ zg_export_one κs a r r' s s' c c' =
 -- the table and the name row
 pub zg_regions_one : (κs : Lfts 5) → OneOutcome (regions.Learnt κs) (λ r. r) (λ s. pair s.1.1.1.1.1.1.0.now s.1.1.1.1.1.1.1.1.0.now)
 zg_regions_one κs a r r' s s' c c' =
-    (c.0 ∙ sym c'.0, same_pair (c.1.0 ∙ sym c'.1.0) (naming_same (given a.0 a.1.0 a.1.1.0 a.1.1.1.0 a.1.1.1.1.0 a.1.1.1.1.1.0) a.1.1.1.1.1.1.0.now a.1.1.1.1.1.1.1.0 a.1.1.1.1.1.1.1.1.0.now _ _ c.1.1 c'.1.1))
+    (c.0 ∙ sym c'.0, same_pair (c.1.0 ∙ sym c'.1.0) (naming_same (given a.0 a.1.0 a.1.1.0 a.1.1.1.0.now a.1.1.1.1.0.now a.1.1.1.1.1.0.now) a.1.1.1.1.1.1.0.now a.1.1.1.1.1.1.1.0 a.1.1.1.1.1.1.1.1.0.now _ _ c.1.1 c'.1.1))
 
 -- Λ and the table
 pub zg_join_one : (κs : Lfts 4) → OneOutcome (join.Learnt κs) (λ r. r) (λ s. pair s.1.1.1.1.0.now s.1.1.1.1.1.1.0.now)

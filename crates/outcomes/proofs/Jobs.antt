@@ -147,13 +147,13 @@ decimation_one κs = one_outcome _ _ _ (λ a. factor_of) factor_from (λ a. fact
 -- the table, the counts and the sums, in arrays
 pub census_one : (κs : Lfts 6) → OneOutcome (census.Learnt κs) (λ r. r) (λ s. three s.1.1.1.1.0.now s.1.1.1.1.1.0.now s.1.1.1.1.1.1.0.now)
 census_one κs a r r' s s' c c' =
-    let w = leaves_one (lent_to a.0 a.1.0 a.1.1.0 a.1.1.1.0) (check_lent (lent_to a.0 a.1.0 a.1.1.0 a.1.1.1.0) a.1.1.1.1.0.now) a.1.1.1.1.1.0.now a.1.1.1.1.1.1.0.now _ _ _ _ c.1.1 c'.1.1 in
+    let w = leaves_one (lent_to a.0 a.1.0.now a.1.1.0.now a.1.1.1.0.now) (check_lent (lent_to a.0 a.1.0.now a.1.1.0.now a.1.1.1.0.now) a.1.1.1.1.0.now) a.1.1.1.1.1.0.now a.1.1.1.1.1.1.0.now _ _ _ _ c.1.1 c'.1.1 in
     (sym (check_told r) ∙ ap check_from (c.0 ∙ sym c'.0) ∙ check_told r', same_three (c.1.0 ∙ sym c'.1.0) w.0 w.1)
 
 -- and in slices
 pub census_into_one : (κs : Lfts 6) → OneOutcome (census-into.Learnt κs) (λ r. r) (λ s. three s.1.1.1.1.0.now s.1.1.1.1.1.0.now s.1.1.1.1.1.1.0.now)
 census_into_one κs a r r' s s' c c' =
-    let w = put_leaves_one (lent_to a.0 a.1.0 a.1.1.0 a.1.1.1.0) (census_lent (lent_to a.0 a.1.0 a.1.1.0 a.1.1.1.0) a.1.1.1.1.0.now a.1.1.1.1.1.0.now a.1.1.1.1.1.1.0.now) a.1.1.1.1.1.0.now a.1.1.1.1.1.1.0.now _ _ _ _ c.1.1 c'.1.1 in
+    let w = put_leaves_one (lent_to a.0 a.1.0.now a.1.1.0.now a.1.1.1.0.now) (census_lent (lent_to a.0 a.1.0.now a.1.1.0.now a.1.1.1.0.now) a.1.1.1.1.0.now a.1.1.1.1.1.0.now a.1.1.1.1.1.1.0.now) a.1.1.1.1.1.0.now a.1.1.1.1.1.1.0.now _ _ _ _ c.1.1 c'.1.1 in
     (sym (check_told r) ∙ ap check_from (c.0 ∙ sym c'.0) ∙ check_told r', same_three (c.1.0 ∙ sym c'.1.0) w.0 w.1)
 
 -- the base rows, which are those that the two rows yield
@@ -170,7 +170,7 @@ export_one κs a r r' s s' c c' =
 -- the table, and the name row, of which the contract says for each dart what its name is
 pub name_regions_one : (κs : Lfts 5) → OneOutcome (name-regions.Learnt κs) (λ r. r) (λ s. pair s.1.1.1.1.0.now s.1.1.1.1.1.0.now)
 name_regions_one κs a r r' s s' c c' =
-    (sym (check_told r) ∙ ap check_from (c.0 ∙ sym c'.0) ∙ check_told r', same_pair (c.1.0 ∙ sym c'.1.0) (naming_same (lent_to a.0.sizes a.1.0 a.1.1.0 a.1.1.1.0) a.1.1.1.1.0.now a.0.level.0 a.1.1.1.1.1.0.now _ _ c.1.1 c'.1.1))
+    (sym (check_told r) ∙ ap check_from (c.0 ∙ sym c'.0) ∙ check_told r', same_pair (c.1.0 ∙ sym c'.1.0) (naming_same (lent_to a.0.sizes a.1.0.now a.1.1.0.now a.1.1.1.0.now) a.1.1.1.1.0.now a.0.level.0 a.1.1.1.1.1.0.now _ _ c.1.1 c'.1.1))
 
 -- rows, Λ, Δ, the table and the buffer
 pub convert_one : (κs : Lfts 6) → OneOutcome (convert.Learnt κs) (λ r. r) (λ s. five s.1.0.now s.1.1.0.now s.1.1.1.0.now s.1.1.1.1.0.now s.1.1.1.1.1.0.now)
