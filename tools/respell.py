@@ -120,6 +120,17 @@ def imports(text):
         yield m.group(1), pairs
 
 
+def pass_on(own, shared):
+    """A module that another one passes on by 'pub use' gives its names under that module too."""
+    for _ in range(3):
+        for path in shared:
+            for line in re.findall(r"(?m)^pub use .*$", open(path, encoding="utf-8").read()):
+                for module, pairs in imports(line):
+                    for name, alias in pairs:
+                        if alias is None and own.get(module, {}).get(name, name) != name:
+                            own[module_of(path)].setdefault(name, own[module][name])
+
+
 def rename(text, names, fields):
     """Renames tokens; behind a dot only the fields of this repository's records and the names of its modules."""
     def one(m):
@@ -133,9 +144,9 @@ def rename(text, names, fields):
                 binder = True
         if dotted and not binder:
             return fields.get(word, word)
-        if word in names:
-            return names[word]
-        return word
+        if word in fields and re.search(r"[{;]\s*$", text[:start]) and re.match(r"\s+=\s", text[m.end():]):
+            return fields[word]
+        return names.get(word, word)
     return re.sub(WORD, one, text)
 
 
@@ -151,6 +162,7 @@ def main():
             if f in own[module_of(path)]:
                 every_field[f] = own[module_of(path)][f]
     every_field = {a: b for a, b in every_field.items() if a != b}
+    pass_on(own, shared)
     clashes = collections.Counter()
     for kind in (".antt", ".rt"):
         for path in files(kind):
@@ -167,8 +179,6 @@ def main():
                     if alias and module in own and snake(alias) != alias:
                         aliases[alias] = snake(alias)
             names.update({a: n for a, n in aliases.items() if a not in names})
-            for f, n in every_field.items():
-                names.setdefault(f, n) if re.search(r"record [^{]*\{[^}]*" + re.escape(f) + r" =", text) else None
             for m in re.finditer(r"use (Rattle\.[\w.'+]+) as (\w+)", text):
                 for name, new in own.get(m.group(1), {}).items():
                     text = re.sub(r"(?<![\w'.-])" + m.group(2) + r"\." + re.escape(name) + r"(?![\w'-])", m.group(2) + "." + new, text)
