@@ -57,7 +57,8 @@ def exported():
 def stated(path, start):
     """{name: (all between a function's name and its body, the body)} of the functions of a source that begin so."""
     found = re.findall(rf"^{re.escape(start)} (\w+)(.*?)\n?\{{\n(.*?)^\}}", without_comments(read(path)), re.S | re.M)
-    return {name: (" ".join(head.split()), " ".join(body.split())) for name, head, body in found}
+    flat = lambda words: re.sub(r",? \)", ")", " ".join(words.split())).replace("( ", "(")
+    return {name: (flat(head), flat(body)) for name, head, body in found}
 
 
 def export_differences():

@@ -300,10 +300,14 @@ def is_used(path, number, indent, name):
     )
 
 
+UNCITED = "## Lemmas that nothing cites any more"
+
+
 def law_differences():
-    """A law that is public is cited: by another source, by another law of its file, or by a page. Those of one outcome have their own test."""
+    """A law that is public is cited: by another source, by another law of its file, or by a page; but for those that docs/PORT.md lists. Those of one outcome have their own test."""
     cited = set().union(*(imports(p).values() for p in CRATES.rglob("*") if p.suffix in (".antt", ".rt") and "out" not in p.parts))
     told = set(re.findall(r"`([^`\s.]+)(?:\.[^`\s]*)?`", "".join((ROOT / page).read_text() for page in NAMED_PAGES + TOLD_PAGES)))
+    told |= set(re.findall(r"`([^`\s]+)`", (ROOT / "docs/PORT.md").read_text().partition(UNCITED)[2]))
     for path in sorted(CRATES.glob("*/proofs/*.antt")):
         if path.parent.parent.name == "outcomes" and path.stem in ("Jobs", "Interface"):
             continue
