@@ -21,6 +21,9 @@ PAGES = [ROOT / "docs" / "CONTRACTS.md", ROOT / "docs" / "DEMANDS.md"]
 # what small maps are held to, by computation
 CLAIMS = {"small_maps", "small_links", "small_factors", "small_joins", "small_contractions", "small_record", "small_partner", "small_jobs", "small_names", "small_relations", "star_again"}
 
+# lemmas that stand before a claim, and the claim that each is for
+LEMMAS = {"marked_one": "small_relations.marked", "left_at": "small_relations.open_piece", "kept": "small_names.passed"}
+
 
 def edits():
     """CRATE/EDIT of every wrong program."""
@@ -71,11 +74,14 @@ def shown(name, text):
     if fact in CLAIMS:
         return f"`{fact}.{field(file, line, column)}`"
     if name.startswith("maps/"):
-        return f"`{fact}`"
+        return f"`{LEMMAS.get(fact, fact)}`"
     if file.suffix == ".rt":
         goal = re.search(r"\(`([^`]+)`", message)
         return f"`{function_at(file, line)}`: `{goal[1] if goal else 'returns'}`"
     where = file.stem if file.parent.name == "proofs" else file.parent.name
+    if where.startswith("+") and fact:
+        # functions that call one another have one folder, and their goals begin with the function
+        where, fact = fact.split("-", 1)
     return f"`{where}`: `{fact}`" if fact else f"`{where}`"
 
 
