@@ -20,8 +20,8 @@ RESERVED = set("data record deriving module where use mod pub package open as un
                "ruleset mutual infix infixl infixr elim let in do Type coe fcoe tcoe hcom com true false zero suc".split())
 
 
-# Maps and numbers of a level that had a capital: their plain word is a variable's name in the same files.
-BY_HAND = {"Level": "level_at", "Floor": "floor_at", "Old": "old_at", "New": "new_at"}
+# Maps and numbers of a level that had a capital: their plain word is a variable's name in the same files. The library's getD is get_or.
+BY_HAND = {"getD-listed": "get_or_listed", "Level": "level_at", "Floor": "floor_at", "Old": "old_at", "New": "new_at"}
 
 
 def files(kind):
@@ -44,10 +44,10 @@ def module_of(path):
 
 
 def snake(name):
-    """The name in snake case; a name of one letter, or with a letter of Greek in it, keeps its capital."""
+    """The name in snake case; a letter of Greek keeps its capital."""
     name = name.replace("-", "_").replace("′", "'")
-    name = re.sub(r"(?<=[a-z0-9])([A-Z])(?![a-z])(?=$|_|')", r"_\1", name)
-    return re.sub(r"(?<=[a-z0-9])([A-Z])", lambda m: "_" + m.group(1).lower(), name)
+    name = re.sub(r"(?<=[a-z0-9])([A-Z])", lambda m: "_" + m.group(1).lower(), name)
+    return re.sub(r"(?<=[a-z0-9_])([A-Z])", lambda m: m.group(1).lower(), name)
 
 
 def camel(name):
@@ -176,7 +176,7 @@ def main():
                 for name, alias in pairs:
                     if made.get(name, name) != name:
                         names[name] = made[name]
-                    if alias and module in own and snake(alias) != alias:
+                    if alias and alias[0].islower() and module in own and snake(alias) != alias:
                         aliases[alias] = snake(alias)
             names.update({a: n for a, n in aliases.items() if a not in names})
             for m in re.finditer(r"use (Rattle\.[\w.'+]+) as (\w+)", text):

@@ -15,7 +15,7 @@ use Rattle.maps.specs.Table.{entry, each, listed}
 use Rattle.maps.specs.Explicit.{present}
 use Rattle.maps.specs.MarkCells.{Marked, CellsMarked}
 use Rattle.laws.proofs.Verdicts.{and_both}
-use Rattle.laws.proofs.Tables.{length_listed, get_D_listed}
+use Rattle.laws.proofs.Tables.{length_listed, get_or_listed}
 use Rattle.orbits.specs.Orbits.{Added}
 use Rattle.orbits.proofs.Orbits.{orbit_back, closed_orbit}
 use Rattle.orbits.specs.Explicit.{ExplicitLevel, but}
@@ -82,7 +82,7 @@ pub marks_cells : (n N : ℕ) (table : List ℕ) (δ : ℕ) (within : ℕ → Bo
 marks_cells n N table δ within s = record { long = length_listed (marks_of N table δ within) N; mark = λ d ld. go d ld (present N table d) refl }
   where
     value : (d : ℕ) → d < N → (b : Bool) → (not (present N table d) || within d) ≡ b → each (listed (marks_of N table δ within) N) d ≡ cond b stay δ
-    value d ld b e = get_D_listed (marks_of N table δ within) N d 0 ld ∙ ap (λ (t : Bool). cond t stay δ) e
+    value d ld b e = get_or_listed (marks_of N table δ within) N d 0 ld ∙ ap (λ (t : Bool). cond t stay δ) e
 
     go : (d : ℕ) → d < N → (b : Bool) → present N table d ≡ b
         → ((present N table d ≡ true) × Marked (entry N table) n δ d × (each (listed (marks_of N table δ within) N) d ≡ δ))

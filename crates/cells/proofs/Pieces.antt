@@ -21,7 +21,7 @@ use Rattle.maps.specs.CheckPyramid.{check_lent, check_leaves, table_at}
 use Rattle.maps.specs.AddLevel.{add_lambda}
 use Rattle.maps.specs.MarkCells.{CellsMarked, mark_lent, MarkLeaves}
 use Rattle.laws.proofs.Verdicts.{and_both}
-use Rattle.laws.proofs.Tables.{get_D_listed, entry_explicit}
+use Rattle.laws.proofs.Tables.{get_or_listed, entry_explicit}
 use Rattle.laws.proofs.Marks.{stay_none}
 use Rattle.facts.proofs.Levels.{level_valid as level_on}
 use Rattle.facts.proofs.AcceptedJobs.{accepted_pyramid, accepted_table}
@@ -121,4 +121,4 @@ module _ (P : Folded) (table : List ℕ) (c : check_lent P table ≡ accepted) w
       let r = piece_left n N T δ out marked held x (o.0, there) in
       let p = piece_of x r.0 o r.1 in
       let unmarked : is_mark n (each out r.0) ≡ false = ap (is_mark n) r.3 ∙ stay_none n (omega (arith, few.dimension)) in
-      (r.0, p.0, (p.1.0, rw (added, get_D_listed (addΛ n h (lambda_of P) (each out)) N r.0 0 p.1.0) (stays_on n h (lambda_of P) (each out) r.0 unmarked p.1.1)))
+      (r.0, p.0, (p.1.0, rw (added, get_or_listed (addΛ n h (lambda_of P) (each out)) N r.0 0 p.1.0) (stays_on n h (lambda_of P) (each out) r.0 unmarked p.1.1)))

@@ -17,7 +17,7 @@ use Rattle.maps.specs.MarkRow.{Row}
 use Rattle.maps.specs.Check.{check_kernel, kernel_at, check_kernels}
 use Rattle.maps.specs.CheckPyramid.{left_behind}
 use Rattle.laws.proofs.Verdicts.{then_accepted, scan_same}
-use Rattle.laws.proofs.Tables.{get_D_listed, length_listed, explicit_same}
+use Rattle.laws.proofs.Tables.{get_or_listed, length_listed, explicit_same}
 use Rattle.facts.proofs.Adding.{marks_kept, marks_new, allowed_added}
 use Rattle.facts.proofs.Climbing.{row_check, next_table, top_table}
 use Rattle.climbing.specs.Climb.{Base, climbs, climb_leaves}
@@ -67,10 +67,10 @@ module _ {P : Folded} {new-lambda new-delta : List ℕ} (row : List ℕ) (b : Ba
   Δ' = each new-delta
 
   new_Λ : (d : ℕ) → d < N → Λ' d ≡ addΛ n h Λ (each row) d
-  new_Λ d ld = rw is-Λ (get_D_listed (addΛ n h Λ (each row)) N d 0 ld)
+  new_Λ d ld = rw is-Λ (get_or_listed (addΛ n h Λ (each row)) N d 0 ld)
 
   new_Δ : (d : ℕ) → d < N → Δ' d ≡ addΔ n Δ (each row) d
-  new_Δ d ld = rw is-Δ (get_D_listed (addΔ n Δ (each row)) N d 0 ld)
+  new_Δ d ld = rw is-Δ (get_or_listed (addΔ n Δ (each row)) N d 0 ld)
 
   long_Λ : length new-lambda ≡ N
   long_Λ = ap length is-Λ ∙ length_listed (addΛ n h Λ (each row)) N

@@ -38,17 +38,17 @@ part_at : (xs : List ℕ) (s k : ℕ) → s + k < length xs → each (part xs s)
 part_at xs s k h = get_or-take (length xs - s) (drop s xs) k 0 (omega arith) ∙ get_or-drop s xs k 0
 
 module _ (n N : ℕ) (rows : List ℕ) (edges vertices : ℕ) (fit : Fit n N (length rows) edges vertices) (low : (d : ℕ) → d < length rows → each rows d < N) where
-  even_N : N ≡ 2 * (N / 2)
-  even_N = even_is N fit.even
+  even_n : N ≡ 2 * (N / 2)
+  even_n = even_is N fit.even
 
   -- the first row and the second, as they are lent
   pub lent_pairs : Pairs (N / 2) rows (part rows N)
   lent_pairs = record {
-    darts = omega (arith, even_N, fit.darts);
-    edge_length = omega (arith, even_N, fit.rows_length);
-    turn_length = omega (arith, even_N, fit.rows_length, part_length rows N);
-    edge_low = λ d f. omega (arith, even_N, low d (omega (arith, even_N, fit.rows_length)));
-    turn_low = λ d f. omega (arith, even_N, part_at rows N d (omega (arith, even_N, fit.rows_length)), low (N + d) (omega (arith, even_N, fit.rows_length)));
+    darts = omega (arith, even_n, fit.darts);
+    edge_length = omega (arith, even_n, fit.rows_length);
+    turn_length = omega (arith, even_n, fit.rows_length, part_length rows N);
+    edge_low = λ d f. omega (arith, even_n, low d (omega (arith, even_n, fit.rows_length)));
+    turn_low = λ d f. omega (arith, even_n, part_at rows N d (omega (arith, even_n, fit.rows_length)), low (N + d) (omega (arith, even_n, fit.rows_length)));
   }
 
   first : (d : ℕ) → entry N rows 0 d ≡ each rows d
@@ -66,11 +66,11 @@ module _ (n N : ℕ) (rows : List ℕ) (edges vertices : ℕ) (fit : Fit n N (le
     pairs = λ d f. let p = pairs d f in record {
       pair = first (2 * d) ∙ p.pair ∙ ap (λ (x : ℕ). x + 1) (sym (first (2 * d + 1)));
       odd = rw (first (2 * d)) p.odd;
-      even = rw (second (2 * d + 1) (omega (arith, even_N))) p.even;
+      even = rw (second (2 * d + 1) (omega (arith, even_n))) p.even;
     };
     back = λ d f. let p = back d f in record {
       by_edge = ap (entry N rows 0) (first (2 * d)) ∙ first (each rows (2 * d)) ∙ p.by_edge;
-      by_turn = ap (entry N rows 1) (second (2 * d + 1) (omega (arith, even_N))) ∙ second (each (part rows N) (2 * d + 1)) (omega (arith, even_N, lent_pairs.turn_low (2 * d + 1) (omega arith))) ∙ p.by_turn;
+      by_turn = ap (entry N rows 1) (second (2 * d + 1) (omega (arith, even_n))) ∙ second (each (part rows N) (2 * d + 1)) (omega (arith, even_n, lent_pairs.turn_low (2 * d + 1) (omega arith))) ∙ p.by_turn;
     };
   }
 
@@ -81,8 +81,8 @@ module _ (n N : ℕ) (rows : List ℕ) (edges vertices : ℕ) (p : Pattern n N r
   abbrev M : ℕ
   M = N / 2
 
-  twice_M : N ≡ 2 * M
-  twice_M = even_is N p.fit.even
+  twice_m : N ≡ 2 * M
+  twice_m = even_is N p.fit.even
 
   pub pattern_rows : Rows 2 N rows
   pattern_rows = record { dimension = omega arith; darts = p.fit.darts; exact = p.fit.rows_length }
@@ -97,18 +97,18 @@ module _ (n N : ℕ) (rows : List ℕ) (edges vertices : ℕ) (p : Pattern n N r
   vertex_is d l = even_is (a 1 (2 * d + 1)) (p.pairs d l).even
 
   edge_low : (d : ℕ) → d < M → edge_of a d < M
-  edge_low d l = omega (arith, twice_M, edge_is d l, p.low (0 * N + 2 * d) (omega (arith, twice_M, p.fit.rows_length)))
+  edge_low d l = omega (arith, twice_m, edge_is d l, p.low (0 * N + 2 * d) (omega (arith, twice_m, p.fit.rows_length)))
 
   vertex_low : (d : ℕ) → d < M → vertex_of a d < M
-  vertex_low d l = omega (arith, twice_M, vertex_is d l, p.low (1 * N + (2 * d + 1)) (omega (arith, twice_M, p.fit.rows_length)))
+  vertex_low d l = omega (arith, twice_m, vertex_is d l, p.low (1 * N + (2 * d + 1)) (omega (arith, twice_m, p.fit.rows_length)))
 
   edge_twice : (d : ℕ) → d < M → edge_of a (edge_of a d) ≡ d
   edge_twice d l = omega (arith, far (edge_of a d) (edge_low d l), ap (a 0) (sym (edge_is d l)) ∙ (p.back d l).by_edge)
 
   pub pattern_yields : Yields (N / 2) (listed (edge_of (entry N rows)) (N / 2)) (listed (vertex_of (entry N rows)) (N / 2)) rows
   pattern_yields =
-      made_yields N rows p.fit.one_dart pattern_rows twice_M (record {
-        a2 = λ d l. (p.sides (2 * d) (omega (arith, twice_M)) ∙ xor_even d, p.sides (2 * d + 1) (omega (arith, twice_M)) ∙ xor_odd d);
+      made_yields N rows p.fit.one_dart pattern_rows twice_m (record {
+        a2 = λ d l. (p.sides (2 * d) (omega (arith, twice_m)) ∙ xor_even d, p.sides (2 * d + 1) (omega (arith, twice_m)) ∙ xor_odd d);
         a1 = λ d l. (vertex_is d l, ap (a 1) (sym (vertex_is d l)) ∙ (p.back d l).by_turn);
         a0 = λ d l. (edge_is d l, far d l);
       }) edge_low vertex_low edge_twice

@@ -16,7 +16,7 @@ use Rattle.maps.specs.CheckBase.{check_base}
 use Rattle.maps.specs.Partner.{Becomes, Yields, export_lent, Exports}
 use Rattle.laws.proofs.Verdicts.{then_accepted, and_both}
 use Rattle.laws.proofs.Sizes.{lent_sized, both_equal}
-use Rattle.laws.proofs.Tables.{length_listed, get_D_listed}
+use Rattle.laws.proofs.Tables.{length_listed, get_or_listed}
 use Rattle.answers.specs.Lent.{lent_of}
 use Rattle.answers.specs.Numbers.{refusal_of}
 use Rattle.answers.specs.declared.Refusal.{Refusal}
@@ -89,7 +89,7 @@ export_base n N rows edges vertices e =
     }
 
 -- the two rows that a base becomes are taken, and yield it
-module _ (N : ℕ) (rows : List ℕ) (one_dart : 1 ≤ N) (fit : Rows 2 N rows) (twice_M : N ≡ 2 * (N / 2)) (b : Becomes (N / 2) (edge_of (entry N rows)) (vertex_of (entry N rows)) (entry N rows))
+module _ (N : ℕ) (rows : List ℕ) (one_dart : 1 ≤ N) (fit : Rows 2 N rows) (twice_m : N ≡ 2 * (N / 2)) (b : Becomes (N / 2) (edge_of (entry N rows)) (vertex_of (entry N rows)) (entry N rows))
     (edge_low : (d : ℕ) → d < N / 2 → edge_of (entry N rows) d < N / 2) (vertex_low : (d : ℕ) → d < N / 2 → vertex_of (entry N rows) d < N / 2)
     (edge_twice : (d : ℕ) → d < N / 2 → edge_of (entry N rows) (edge_of (entry N rows) d) ≡ d) where
   abbrev K : ℕ
@@ -111,18 +111,18 @@ module _ (N : ℕ) (rows : List ℕ) (one_dart : 1 ≤ N) (fit : Rows 2 N rows) 
   vertices = listed successor K
 
   edges_at : (d : ℕ) → d < K → each edges d ≡ partner d
-  edges_at d l = get_D_listed partner K d 0 l
+  edges_at d l = get_or_listed partner K d 0 l
 
   vertices_at : (d : ℕ) → d < K → each vertices d ≡ successor d
-  vertices_at d l = get_D_listed successor K d 0 l
+  vertices_at d l = get_or_listed successor K d 0 l
 
   rows_taken : Taken K edges vertices rows
   rows_taken = record {
-    one_dart = omega (arith, twice_M, one_dart);
-    darts = omega (arith, twice_M, fit.darts);
+    one_dart = omega (arith, twice_m, one_dart);
+    darts = omega (arith, twice_m, fit.darts);
     edges_row = record { exact = length_listed partner K; inside = λ d l. rw (edges_at d l) (edge_low d l) };
     vertices_row = record { exact = length_listed successor K; inside = λ d l. rw (vertices_at d l) (vertex_low d l) };
-    rows_length = omega (arith, twice_M, fit.exact);
+    rows_length = omega (arith, twice_m, fit.exact);
     twice = λ d l. ap (each edges) (edges_at d l) ∙ edges_at (partner d) (edge_low d l) ∙ edge_twice d l;
     one_to_one = λ d e ld le f. successor_one d e ld le (sym (vertices_at d ld) ∙ f ∙ vertices_at e le);
   }
@@ -133,7 +133,7 @@ module _ (N : ℕ) (rows : List ℕ) (one_dart : 1 ≤ N) (fit : Rows 2 N rows) 
   pub made_yields : Yields (N / 2) (listed (edge_of (entry N rows)) (N / 2)) (listed (vertex_of (entry N rows)) (N / 2)) rows
   made_yields = record {
     taken = taken_accepted K edges vertices rows rows_taken;
-    base = subst (λ (x : ℕ). Becomes K (each edges) (each vertices) (entry x rows)) twice_M becomes;
+    base = subst (λ (x : ℕ). Becomes K (each edges) (each vertices) (entry x rows)) twice_m becomes;
   }
 
 -- a valid base of that shape is the base of its two rows
@@ -150,11 +150,11 @@ module _ (N : ℕ) (rows : List ℕ) (one_dart : 1 ≤ N) (fit : Rows 2 N rows) 
   abbrev vertex : ℕ → ℕ
   vertex = vertex_of (entry N rows)
 
-  twice_M : N ≡ 2 * M
-  twice_M = even_is N shape.even
+  twice_m : N ≡ 2 * M
+  twice_m = even_is N shape.even
 
   low : (d : ℕ) → d < M → 2 * d + 1 < N
-  low d l = omega (arith, twice_M)
+  low d l = omega (arith, twice_m)
 
   at : (d : ℕ) → d < M → (a 2 (2 * d) ≡ 2 * d + 1) × (a 1 (2 * d + 1) ≡ 2 * vertex d) × (a 0 (2 * d) ≡ 2 * edge d + 1)
   at d l =
@@ -163,10 +163,10 @@ module _ (N : ℕ) (rows : List ℕ) (one_dart : 1 ≤ N) (fit : Rows 2 N rows) 
       (eqb-true (a 2 (2 * d)) (2 * d + 1) t.0, even_is (a 1 (2 * d + 1)) (eqb-true (a 1 (2 * d + 1) % 2) 0 t.1), odd_is (a 0 (2 * d)) (eqb-true (a 0 (2 * d) % 2) 1 s.1))
 
   edge_low : (d : ℕ) → d < M → edge d < M
-  edge_low d l = omega (arith, (at d l).2, valid.inside 0 (2 * d) (omega arith) (omega (arith, low d l)), twice_M)
+  edge_low d l = omega (arith, (at d l).2, valid.inside 0 (2 * d) (omega arith) (omega (arith, low d l)), twice_m)
 
   vertex_low : (d : ℕ) → d < M → vertex d < M
-  vertex_low d l = omega (arith, (at d l).1, valid.inside 1 (2 * d + 1) (omega arith) (low d l), twice_M)
+  vertex_low d l = omega (arith, (at d l).1, valid.inside 1 (2 * d + 1) (omega arith) (low d l), twice_m)
 
   side : (d : ℕ) → d < M → a 2 (2 * d + 1) ≡ 2 * d
   side d l = ap (a 2) (sym (at d l).0) ∙ valid.twice 2 (2 * d) (omega arith) (omega (arith, low d l))
@@ -183,7 +183,7 @@ module _ (N : ℕ) (rows : List ℕ) (one_dart : 1 ≤ N) (fit : Rows 2 N rows) 
 
   pub shape_yields : Yields (N / 2) (listed (edge_of (entry N rows)) (N / 2)) (listed (vertex_of (entry N rows)) (N / 2)) rows
   shape_yields =
-      made_yields N rows one_dart fit twice_M (record { a2 = λ d l. ((at d l).0, side d l); a1 = λ d l. ((at d l).1, turn d l); a0 = λ d l. ((at d l).2, far d l) }) edge_low vertex_low edge_twice
+      made_yields N rows one_dart fit twice_m (record { a2 = λ d l. ((at d l).0, side d l); a1 = λ d l. ((at d l).1, turn d l); a0 = λ d l. ((at d l).2, far d l) }) edge_low vertex_low edge_twice
 
 -- and a base that two rows yield has that shape
 pub yields_shape : (N M : ℕ) (rows edges vertices : List ℕ) → length rows ≡ 3 * N → Yields M edges vertices rows → Alternates N (entry N rows)

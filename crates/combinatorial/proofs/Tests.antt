@@ -13,7 +13,7 @@ use borrow.Author.Tests.{ltb-true, ltb-false, lt-ltb, le-ltb, leb-true, le-leb, 
 use Rattle.maps.specs.Verdict.{Verdict, accepted, refused, when, ◌then◌, scan}
 use Rattle.maps.specs.Sizes.{number4, has_length}
 use Rattle.maps.specs.Table.{each}
-use Rattle.maps.specs.Partner.{number2_M, outside, edges_back, had, number21, import_lent}
+use Rattle.maps.specs.Partner.{number2_m, outside, edges_back, had, number21, import_lent}
 use Rattle.laws.proofs.Verdicts.{then_accepted, then_two, when_accepted, scan_accepted, scan_all, scan_first, and_both}
 use Rattle.laws.proofs.Sizes.{lengths_exact, both_equal}
 use Rattle.laws.proofs.Counting.{Mem, Nodup, minus, count_minus, count_le, pigeon, gather, length_gather, mem_gather, nodup_gather, sum_const}
@@ -176,11 +176,11 @@ pub record Taken (M : ℕ) (edges vertices rows : List ℕ) : Type 0 where
 module _ (M : ℕ) (edges vertices rows : List ℕ) where
   -- 2 and 4, then the rows
   abbrev pub first : Verdict
-  first = number2_M M then number4 (has_length edges M && (has_length vertices M && has_length rows (6 * M)))
+  first = number2_m M then number4 (has_length edges M && (has_length vertices M && has_length rows (6 * M)))
 
   pub tests : import_lent M edges vertices rows ≡ first then tests_of M edges vertices
   unfolding import_lent
-  tests = then_two (number2_M M) (number4 (has_length edges M && (has_length vertices M && has_length rows (6 * M)))) (tests_of M edges vertices)
+  tests = then_two (number2_m M) (number4 (has_length edges M && (has_length vertices M && has_length rows (6 * M)))) (tests_of M edges vertices)
 
   pub record Sized : Type 0 where
     pub one_dart : 1 ≤ M
@@ -190,17 +190,17 @@ module _ (M : ℕ) (edges vertices rows : List ℕ) where
     pub rows_length : length rows ≡ 6 * M
 
   pub first_sized : first ≡ accepted → Sized
-  unfolding number2_M
+  unfolding number2_m
   first_sized e =
       let fit = has_length edges M && (has_length vertices M && has_length rows (6 * M)) in
-      let r = then_accepted (number2_M M) (number4 fit) e in
+      let r = then_accepted (number2_m M) (number4 fit) e in
       let two = and_both (leb 1 M) (leb M 2048) (not-false (leb 1 M && leb M 2048) (when_accepted (not (leb 1 M && leb M 2048)) 2 0 0 0 r.0)) in
       let s = both_equal (length edges) M (has_length vertices M && has_length rows (6 * M)) (lengths_exact fit r.1) in
       let t = both_equal (length vertices) M (has_length rows (6 * M)) s.1 in
       record { one_dart = leb-true 1 M two.0; darts = leb-true M 2048 two.1; edges_length = s.0; vertices_length = t.0; rows_length = eqb-true (length rows) (6 * M) t.1 }
 
   sized_first : Sized → first ≡ accepted
-  unfolding number2_M number4
+  unfolding number2_m number4
   sized_first z = rw (le-leb 1 M z.one_dart, le-leb M 2048 z.darts, eq-eqb (length edges) M z.edges_length, eq-eqb (length vertices) M z.vertices_length, eq-eqb (length rows) (6 * M) z.rows_length)
 
   pub taken : import_lent M edges vertices rows ≡ accepted → Taken M edges vertices rows

@@ -3,7 +3,7 @@ ghost use Rattle.std.specs.Prelude.{◌≡◌, false, ◌&&◌, ℕ, ◌+◌, �
 ghost use Rattle.maps.specs.Verdict.{◌then◌};
 ghost use Rattle.maps.specs.Sizes.{number4};
 ghost use Rattle.maps.specs.Table.{each};
-ghost use Rattle.maps.specs.Partner.{number2_M, outside as outside_of, edges_back, number21, import_lent};
+ghost use Rattle.maps.specs.Partner.{number2_m, outside as outside_of, edges_back, number21, import_lent};
 ghost use Rattle.answers.specs.Numbers.{verdict_of};
 ghost use Rattle.combinatorial.specs.Rows.{Row, tests_of, Kept, Pairs, Turns};
 ghost use Rattle.combinatorial.specs.Left.{ImportLeft};
@@ -12,7 +12,7 @@ use answers::{Check, Dim, Level, PARTNER_DARTS, Refusal};
 
 // Numbers 2 and 4: M, and whether every slice lent has the exact length.
 fn sizes(darts: u16, edges: usize, vertices: usize, rows: usize) -> Check
-    ensures { verdict_of result ≡ number2_M darts then number4 (eqb edges darts && (eqb vertices darts && eqb rows (6 * darts))) }
+    ensures { verdict_of result ≡ number2_m darts then number4 (eqb edges darts && (eqb vertices darts && eqb rows (6 * darts))) }
 {
     if darts < 1 {
         return Check::Refused(Refusal::Darts);

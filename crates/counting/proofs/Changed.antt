@@ -31,7 +31,7 @@ used i j ne = rw (ne_eqb j i ne)
 
 -- O has the darts of the i-cells that meet the kernel, F those of the i-cells of the second map that have a survivor which a row led into it
 module _ (a b : Involutions) (n : ℕ) (P Q K : ℕ → Type 0) (s : Shrinks a b n P Q K) (i : ℕ) (O F : ℕ → Bool) (closed-O : Closed a n (λ j d. but i j) O) (closed-F : Closed b n (λ j d. but i j) F)
-    (kernel_O : (d : ℕ) → K d → O d ≡ true) (edge_F : (j d : ℕ) → j ≤ n → (j ≡ i → ⊥) → Q d → K (a j d) → F d ≡ true) where
+    (kernel_o : (d : ℕ) → K d → O d ≡ true) (edge_f : (j d : ℕ) → j ≤ n → (j ≡ i → ⊥) → Q d → K (a j d) → F d ≡ true) where
   back : (j d : ℕ) → j ≤ n → (j ≡ i → ⊥) → P d → O (a j d) ≡ true → O d ≡ true
   back j d lj ne p h = rw (s.before.twice j d lj p) at (closed-O (a j d) j h lj (used i j ne))
 
@@ -39,7 +39,7 @@ module _ (a b : Involutions) (n : ℕ) (P Q K : ℕ → Type 0) (s : Shrinks a b
   outside : (j d : ℕ) → j ≤ n → (j ≡ i → ⊥) → Q d → O d ≡ false → Q (a j d) × (O (a j d) ≡ false) × (b j d ≡ a j d)
   outside j d lj ne q o =
       let out = no (O (a j d)) refl in
-      let there : Q (a j d) = elim (s.split (a j d) (s.before.inside j d lj (s.sub d q))) [ inl r ↦ r | inr k ↦ absurd (true≢false (sym (kernel_O (a j d) k) ∙ out)) ] in
+      let there : Q (a j d) = elim (s.split (a j d) (s.before.inside j d lj (s.sub d q))) [ inl r ↦ r | inr k ↦ absurd (true≢false (sym (kernel_o (a j d) k) ∙ out)) ] in
       (there, out, s.stays j d lj q there)
     where
       no : (x : Bool) → O (a j d) ≡ x → O (a j d) ≡ false
@@ -64,7 +64,7 @@ module _ (a b : Involutions) (n : ℕ) (P Q K : ℕ → Type 0) (s : Shrinks a b
   -- a survivor in a cell that meets the kernel is in F
   next : (j d : ℕ) → j ≤ n → (j ≡ i → ⊥) → P d → K d ⊎ (Q d × (F d ≡ true)) → Q (a j d) ⊎ K (a j d) → K (a j d) ⊎ (Q (a j d) × (F (a j d) ≡ true))
   next j d lj ne p w (inr k) = inl k
-  next j d lj ne p (inl k) (inl q) = inr (q, edge_F j (a j d) lj ne q (rw (s.before.twice j d lj p) k))
+  next j d lj ne p (inl k) (inl q) = inr (q, edge_f j (a j d) lj ne q (rw (s.before.twice j d lj p) k))
   next j d lj ne p (inr w) (inl q) = inr (q, rw (s.stays j d lj w.0 q) at (closed-F d j w.1 lj (used i j ne)))
 
   pub reach : (k e : ℕ) → K k → Cell a n i k e → P e × (K e ⊎ (Q e × (F e ≡ true)))
@@ -80,14 +80,14 @@ module _ (a b : Involutions) (n : ℕ) (P Q K : ℕ → Type 0) (s : Shrinks a b
   step m d lm nm q o q' (inr k) = far (s.split (a m (b m d)) (s.before.inside m (b m d) lm (s.sub (b m d) q')))
     where
       far : Q (a m (b m d)) ⊎ K (a m (b m d)) → O (b m d) ≡ true
-      far (inr x) = back m (b m d) lm nm (s.sub (b m d) q') (kernel_O (a m (b m d)) x)
+      far (inr x) = back m (b m d) lm nm (s.sub (b m d) q') (kernel_o (a m (b m d)) x)
       far (inl r) =
           let e : a m (b m d) ≡ d = sym (s.stays m (b m d) lm q' r) ∙ s.after.twice m d lm q in
           let f : a m d ≡ b m d = ap (a m) (sym e) ∙ s.before.twice m (b m d) lm (s.sub (b m d) q') in
           absurd (s.apart (b m d) q' (rw f at k))
 
   pub found_opened : (x e j : ℕ) → j ≤ n → (j ≡ i → ⊥) → Q x → K (a j x) → Cell b n i x e → Q e × (O e ≡ true)
-  found_opened x _ j lj ne q k itself = (q, back j x lj ne (s.sub x q) (kernel_O (a j x) k))
+  found_opened x _ j lj ne q k itself = (q, back j x lj ne (s.sub x q) (kernel_o (a j x) k))
   found_opened x _ j lj ne q k (onward d m c lm nm) =
       let r = found_opened x d j lj ne q k c in
       let q' = s.after.inside m d lm r.0 in
@@ -122,52 +122,52 @@ module _ (a b : Involutions) (n N : ℕ) (pa pb : ℕ → Bool) (K : ℕ → Typ
     (edge-starts : (j d : ℕ) → j ≤ n → (j ≡ i → ⊥) → There N pb d → K (a j d) → E d)
     (starts-edge : (d : ℕ) → E d → (j : ℕ) × (j ≤ n) × (j ≡ i → ⊥) × There N pb d × K (a j d))
     (number opened found : ℕ) (c : CellCount a n N pa i number) (O : ℕ → Bool) (o : Met a n N i S O opened) (F : ℕ → Bool) (f : Met b n N i E F found) where
-  kernel_O : (d : ℕ) → K d → O d ≡ true
-  kernel_O d k = o.has_starts d (kernel-starts d k)
+  kernel_o : (d : ℕ) → K d → O d ≡ true
+  kernel_o d k = o.has_starts d (kernel-starts d k)
 
-  edge_F : (j d : ℕ) → j ≤ n → (j ≡ i → ⊥) → There N pb d → K (a j d) → F d ≡ true
-  edge_F j d lj ne q k = f.has_starts d (edge-starts j d lj ne q k)
+  edge_f : (j d : ℕ) → j ≤ n → (j ≡ i → ⊥) → There N pb d → K (a j d) → F d ≡ true
+  edge_f j d lj ne q k = f.has_starts d (edge-starts j d lj ne q k)
 
   -- a dart of O is present, and in F where it survives
-  in_O : (d : ℕ) → O d ≡ true → There N pa d × (There N pb d → F d ≡ true)
-  in_O d h =
+  in_o : (d : ℕ) → O d ≡ true → There N pa d × (There N pb d → F d ≡ true)
+  in_o d h =
       let w = o.source d h in
-      let r = reach a b n (There N pa) (There N pb) K s i O F o.closed f.closed kernel_O edge_F w.0 d (starts-kernel w.0 w.1) w.2 in
+      let r = reach a b n (There N pa) (There N pb) K s i O F o.closed f.closed kernel_o edge_f w.0 d (starts-kernel w.0 w.1) w.2 in
       (r.0, λ q. elim r.1 [ inl k ↦ absurd (s.apart d q k) | inr x ↦ x.1 ])
 
   -- a dart of F survives, and is in O
-  in_F : (d : ℕ) → F d ≡ true → There N pb d × (O d ≡ true)
-  in_F d h =
+  in_f : (d : ℕ) → F d ≡ true → There N pb d × (O d ≡ true)
+  in_f d h =
       let w = f.source d h in
       let e = starts-edge w.0 w.1 in
-      found_opened a b n (There N pa) (There N pb) K s i O F o.closed f.closed kernel_O edge_F w.0 d e.0 e.1 e.2 e.3 e.4 w.2
+      found_opened a b n (There N pa) (There N pb) K s i O F o.closed f.closed kernel_o edge_f w.0 d e.0 e.1 e.2 e.3 e.4 w.2
 
   -- outside O the darts present survive
   survivor : (d : ℕ) → There N pa d → O d ≡ false → There N pb d
-  survivor d p g = elim (s.split d p) [ inl q ↦ q | inr k ↦ absurd (true≢false (sym (kernel_O d k) ∙ g)) ]
+  survivor d p g = elim (s.split d p) [ inl q ↦ q | inr k ↦ absurd (true≢false (sym (kernel_o d k) ∙ g)) ]
 
   -- a dart of O is counted among the cells that meet the kernel where it was counted
   same : (d : ℕ) → d < N → O d ≡ true → o.counted d ≡ c.counted d
-  same d l h = both_ways (o.counted d) (c.counted d) (λ q. c.every d l (in_O d h).0.1 (o.only d q)) (λ q. o.every d h (c.only d l q).1)
+  same d l h = both_ways (o.counted d) (c.counted d) (λ q. c.every d l (in_o d h).0.1 (o.only d q)) (λ q. o.every d h (c.only d l q).1)
 
-  none_O : (d : ℕ) → O d ≡ false → o.counted d ≡ false
-  none_O d g = both_ways (o.counted d) false (λ q. absurd (true≢false (sym (o.inside d q) ∙ g))) (λ q. absurd (true≢false (sym q)))
+  none_o : (d : ℕ) → O d ≡ false → o.counted d ≡ false
+  none_o d g = both_ways (o.counted d) false (λ q. absurd (true≢false (sym (o.inside d q) ∙ g))) (λ q. absurd (true≢false (sym q)))
 
-  none_F : (d : ℕ) → F d ≡ false → f.counted d ≡ false
-  none_F d g = both_ways (f.counted d) false (λ q. absurd (true≢false (sym (f.inside d q) ∙ g))) (λ q. absurd (true≢false (sym q)))
+  none_f : (d : ℕ) → F d ≡ false → f.counted d ≡ false
+  none_f d g = both_ways (f.counted d) false (λ q. absurd (true≢false (sym (f.inside d q) ∙ g))) (λ q. absurd (true≢false (sym q)))
 
   only' : (d : ℕ) → d < N → (x : Bool) → F d ≡ x → (y : Bool) → O d ≡ y → cond x (f.counted d) (c.counted d && not y) ≡ true → (pb d ≡ true) × Lowest b n i d
-  only' d l true e y g h = ((in_F d e).0.1, f.only d h)
+  only' d l true e y g h = ((in_f d e).0.1, f.only d h)
   only' d l false e true g h = absurd (true≢false (sym (and_both (c.counted d) false h).1))
   only' d l false e false g h =
       let w = c.only d l (and_both (c.counted d) true h).0 in
       let q = survivor d (l, w.0) g in
-      (q.1, λ x z. w.1 x (stood a b n (There N pa) (There N pb) K s i O F o.closed f.closed kernel_O edge_F d x q g z).0)
+      (q.1, λ x z. w.1 x (stood a b n (There N pa) (There N pb) K s i O F o.closed f.closed kernel_o edge_f d x q g z).0)
 
   every' : (d : ℕ) → d < N → pb d ≡ true → Lowest b n i d → (x : Bool) → F d ≡ x → (y : Bool) → O d ≡ y → cond x (f.counted d) (c.counted d && not y) ≡ true
   every' d l p low true e y g = f.every d e low
-  every' d l p low false e true g = absurd (true≢false (sym ((in_O d g).1 (l, p)) ∙ e))
-  every' d l p low false e false g = rw (c.every d l (s.sub d (l, p)).1 (λ x z. low x (stands a b n (There N pa) (There N pb) K s i O F o.closed f.closed kernel_O edge_F d x (l, p) g z).0))
+  every' d l p low false e true g = absurd (true≢false (sym ((in_o d g).1 (l, p)) ∙ e))
+  every' d l p low false e false g = rw (c.every d l (s.sub d (l, p)).1 (λ x z. low x (stands a b n (There N pa) (There N pb) K s i O F o.closed f.closed kernel_o edge_f d x (l, p) g z).0))
 
   -- the cells of the second map, counted out of the three
   pub changed : (next : ℕ) × CellCount b n N pb i next × (next + opened ≡ number + found)
@@ -177,4 +177,4 @@ module _ (a b : Involutions) (n N : ℕ) (pa pb : ℕ → Bool) (K : ℕ → Typ
       counted' d = cond (F d) (f.counted d) (c.counted d && not (O d))
 
       all : count counted' N + count o.counted N ≡ count c.counted N + count f.counted N
-      all = count_four counted' o.counted c.counted f.counted N (λ d l. at_dart (F d) (O d) (c.counted d) (o.counted d) (f.counted d) (λ e. same d l (in_F d e).1) (none_F d) (same d l) (none_O d))
+      all = count_four counted' o.counted c.counted f.counted N (λ d l. at_dart (F d) (O d) (c.counted d) (o.counted d) (f.counted d) (λ e. same d l (in_f d e).1) (none_f d) (same d l) (none_o d))

@@ -22,7 +22,7 @@ use Rattle.maps.specs.AddLevel.{refused_mark, at_row8, number20, add_lent, add_l
 use Rattle.maps.specs.Readded.{row_back, lowest, Readded}
 use Rattle.laws.proofs.Verdicts.{then_accepted, when_accepted, scan_accepted, scan_all}
 use Rattle.laws.proofs.Sizes.{Sized, sizes_sized, lengths_exact}
-use Rattle.laws.proofs.Tables.{length_listed, get_D_listed, listed_of, listed_same, explicit_same}
+use Rattle.laws.proofs.Tables.{length_listed, get_or_listed, listed_of, listed_same, explicit_same}
 use Rattle.laws.proofs.MarkRows.{marks_at_lem, taken_is, allowed_small}
 use Rattle.facts.proofs.Levels.{level_at, level_valid}
 use Rattle.facts.proofs.Agreement.{kernel_same, level_same}
@@ -143,7 +143,7 @@ module _ (P : Folded) (row table : List ℕ) (e : add_lent P row table ≡ accep
       let k = checked_kernel a n N h Λ Δ s.dimension s.darts p.base p.allowed p.kernels mark p.marked p.kernel in
       rw e
       (pyramid_same a n N (suc h) (addΛ n h Λ mark) (addΔ n Δ mark) (each (listed (addΛ n h Λ mark) N)) (each (listed (addΔ n Δ mark) N))
-      (λ d ld. sym (get_D_listed (addΛ n h Λ mark) N d 0 ld)) (λ d ld. sym (get_D_listed (addΔ n Δ mark) N d 0 ld)) (added a n N h Λ Δ y mark p.marked k))
+      (λ d ld. sym (get_or_listed (addΛ n h Λ mark) N d 0 ld)) (λ d ld. sym (get_or_listed (addΔ n Δ mark) N d 0 ld)) (added a n N h Λ Δ y mark p.marked k))
 
 -- the rows read back out of an accepted pyramid are its kernels
 module _ (a : Involutions) (n N h : ℕ) (Λ Δ : ℕ → ℕ) (y : Pyramid a n N h Λ Δ) where
@@ -201,41 +201,41 @@ module _ (P : Folded) (y : Pyramid (base P) P.n P.N P.h (lambda_of P) (delta_of 
     abbrev R : ℕ → ℕ
     R = each (row_back P k)
 
-    same_L : (d : ℕ) → d < N → foldΛ n ks k d ≡ L d
-    same_L d ld = sym (get_D_listed (foldΛ n ks k) N d 0 ld)
+    same_l : (d : ℕ) → d < N → foldΛ n ks k d ≡ L d
+    same_l d ld = sym (get_or_listed (foldΛ n ks k) N d 0 ld)
 
-    same_D : (d : ℕ) → d < N → foldΔ n ks k d ≡ D d
-    same_D d ld = sym (get_D_listed (foldΔ n ks k) N d 0 ld)
+    same_d : (d : ℕ) → d < N → foldΔ n ks k d ≡ D d
+    same_d d ld = sym (get_or_listed (foldΔ n ks k) N d 0 ld)
 
-    same_R : (d : ℕ) → d < N → ks k d ≡ R d
-    same_R d ld = sym (get_D_listed (ks k) N d 0 ld)
+    same_r : (d : ℕ) → d < N → ks k d ≡ R d
+    same_r d ld = sym (get_or_listed (ks k) N d 0 ld)
 
     F : Folds (base P) n N k ks
     F = folded (base P) n N h (lambda_of P) (delta_of P) y k (omega arith)
 
     below : Pyramid (base P) n N k L D
-    below = pyramid_same (base P) n N k (foldΛ n ks k) (foldΔ n ks k) L D same_L same_D F.pyramid
+    below = pyramid_same (base P) n N k (foldΛ n ks k) (foldΔ n ks k) L D same_l same_d F.pyramid
 
     row_lists : Row n N k L R
     row_lists =
         let r = fold_row (base P) n N h (lambda_of P) (delta_of P) y k z in
         record {
-          top = λ d ld q. sym (same_L d ld) ∙ r.top d ld (rw (same_R d ld) q);
-          rest = λ d ld q. sym (same_R d ld) ∙ r.rest d ld (rw (same_R d ld) q);
+          top = λ d ld q. sym (same_l d ld) ∙ r.top d ld (rw (same_r d ld) q);
+          rest = λ d ld q. sym (same_r d ld) ∙ r.rest d ld (rw (same_r d ld) q);
         }
 
     -- the level of the folded rows is the pyramid's own
     level_is : (i d : ℕ) → i ≤ n → On N (lambda_of P) k d → level (base P) n N ks k i d ≡ level (base P) n N (marks k L D) k i d
     level_is i d li o =
         let o' : On N (foldΛ n ks k) k d = (o.0, rw (fold_at (base P) n N h (lambda_of P) (delta_of P) y k d (omega arith) o.0, le-ltb (lambda_of P d) k o.1) (omega arith)) in
-        sym (F.maps k (omega arith) i d li o') ∙ levels_same (base P) n N k (foldΛ n ks k) (foldΔ n ks k) L D same_L same_D F.pyramid k (omega arith) i d li o'
+        sym (F.maps k (omega arith) i d li o') ∙ levels_same (base P) n N k (foldΛ n ks k) (foldΔ n ks k) L D same_l same_d F.pyramid k (omega arith) i d li o'
 
     on_lists : (d : ℕ) → On N L k d → On N (lambda_of P) k d
-    on_lists d o = on_fold (base P) n N h (lambda_of P) (delta_of P) y k d (omega arith) (on_same (base P) n N k (foldΛ n ks k) (foldΔ n ks k) L D same_L same_D F.pyramid k d o)
+    on_lists d o = on_fold (base P) n N h (lambda_of P) (delta_of P) y k d (omega arith) (on_same (base P) n N k (foldΛ n ks k) (foldΔ n ks k) L D same_l same_d F.pyramid k d o)
 
     kernel_lists : Kernel (level (base P) n N (marks k L D) k) n (On N L k) R
     kernel_lists =
-        kernel_same (level (base P) n N ks k) (level (base P) n N (marks k L D) k) n (On N (lambda_of P) k) (On N L k) (ks k) R (level_valid (base P) n N h (lambda_of P) (delta_of P) y k (omega arith)) (y.kernel k z) level_is (λ d o. same_R d o.0) on_lists
+        kernel_same (level (base P) n N ks k) (level (base P) n N (marks k L D) k) n (On N (lambda_of P) k) (On N L k) (ks k) R (level_valid (base P) n N h (lambda_of P) (delta_of P) y k (omega arith)) (y.kernel k z) level_is (λ d o. same_r d o.0) on_lists
 
     refused_none : (d : ℕ) → d < N → refused_mark n k L R d ≡ false
     refused_none d ld = go (is_mark n (R d)) refl
@@ -277,7 +277,7 @@ module _ (P : Folded) (y : Pyramid (base P) P.n P.N P.h (lambda_of P) (delta_of 
     tables_next : level_table (base P) n N (suc k) (addΛ n k L R) (addΔ n D R) (suc k) ≡ table_at P (suc k)
     unfolding foldΛ foldΔ
     tables_next =
-        sym (table_same (base P) n N (suc k) (foldΛ n ks (suc k)) (foldΔ n ks (suc k)) (addΛ n k L R) (addΔ n D R) (λ d ld. rw (same_L d ld, same_R d ld)) (λ d ld. rw (same_D d ld, same_R d ld)) F'.pyramid (suc k) (omega arith))
+        sym (table_same (base P) n N (suc k) (foldΛ n ks (suc k)) (foldΔ n ks (suc k)) (addΛ n k L R) (addΔ n D R) (λ d ld. rw (same_l d ld, same_r d ld)) (λ d ld. rw (same_d d ld, same_r d ld)) F'.pyramid (suc k) (omega arith))
         ∙ explicit_same (level (base P) n N (marks (suc k) (foldΛ n ks (suc k)) (foldΔ n ks (suc k))) (suc k)) (level (base P) n N ks (suc k)) n N (survives (foldΛ n ks (suc k)) (suc k)) (survives (lambda_of P) (suc k)) survives_fold
         (λ i d li ld q. F'.maps (suc k) (omega arith) i d li (ld, ltb-false (foldΛ n ks (suc k) d) (suc k) (not-true (ltb (foldΛ n ks (suc k) d) (suc k)) (survives_fold d ld ∙ q))))
 
@@ -285,7 +285,7 @@ module _ (P : Folded) (y : Pyramid (base P) P.n P.N P.h (lambda_of P) (delta_of 
     unfolding add_lambda add_delta add_leaves left_behind foldΛ foldΔ
     readded = record {
       verdict = verdict;
-      lambda_next = rw verdict (listed_same (addΛ n k L R) (addΛ n k (foldΛ n ks k) (ks k)) N (λ d ld. rw (same_L d ld, same_R d ld)));
-      delta_next = rw verdict (listed_same (addΔ n D R) (addΔ n (foldΔ n ks k) (ks k)) N (λ d ld. rw (same_D d ld, same_R d ld)));
+      lambda_next = rw verdict (listed_same (addΛ n k L R) (addΛ n k (foldΛ n ks k) (ks k)) N (λ d ld. rw (same_l d ld, same_r d ld)));
+      delta_next = rw verdict (listed_same (addΔ n D R) (addΔ n (foldΔ n ks k) (ks k)) N (λ d ld. rw (same_d d ld, same_r d ld)));
       table_next = rw verdict tables_next;
     }

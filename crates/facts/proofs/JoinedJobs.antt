@@ -18,7 +18,7 @@ use Rattle.maps.specs.CheckPyramid.{check_lent}
 use Rattle.maps.specs.Accepted.{Accepted}
 use Rattle.maps.specs.Join.{joinΛ, joined_row, join_lent, join_height, join_lambda}
 use Rattle.laws.proofs.Verdicts.{then_accepted, when_accepted, scan_accepted, scan_all, scan_first}
-use Rattle.laws.proofs.Tables.{length_listed, get_D_listed}
+use Rattle.laws.proofs.Tables.{length_listed, get_or_listed}
 use Rattle.facts.proofs.Levels.{level_valid}
 use Rattle.facts.proofs.Checks.{check9_whole, sound_kernel, pyramid_check}
 use Rattle.facts.proofs.Joining.{marks_lower, level_lower, marked_on, Joined, joins, never_ten}
@@ -80,7 +80,7 @@ pub each_joined : (N : ℕ) (lambda : List ℕ) (l : ℕ) → length lambda ≡ 
 each_joined N lambda l long = fun_ext (λ d. go d (ltb d N) refl)
   where
     go : (d : ℕ) (x : Bool) → ltb d N ≡ x → each (listed (joinΛ l (each lambda)) N) d ≡ joinΛ l (each lambda) d
-    go d true e = get_D_listed (joinΛ l (each lambda)) N d 0 (ltb-true d N e)
+    go d true e = get_or_listed (joinΛ l (each lambda)) N d 0 (ltb-true d N e)
     go d false e =
         let past = ltb-false d N e in
         let none : each lambda d ≡ 0 = get_or-eq_default lambda 0 (omega (arith, long)) in

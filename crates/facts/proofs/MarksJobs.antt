@@ -15,7 +15,7 @@ use Rattle.maps.specs.AddLevel.{add_lent, add_lambda, add_delta}
 use Rattle.maps.specs.MarksBack.{at_marks8, marks_lent, marks_leaves}
 use Rattle.laws.proofs.Verdicts.{scan_all}
 use Rattle.laws.proofs.Sizes.{Sized, both_equal}
-use Rattle.laws.proofs.Tables.{length_listed, get_D_listed, listed_of}
+use Rattle.laws.proofs.Tables.{length_listed, get_or_listed, listed_of}
 use Rattle.facts.proofs.Adding.{marks_new}
 use Rattle.facts.proofs.AcceptedJobs.{parts as checked_parts, exact, accepted_pyramid}
 use Rattle.facts.proofs.AddedJobs.{parts as added_parts, add_pyramid}
@@ -74,4 +74,4 @@ module _ (P : Folded) (row table : List ℕ) (e : add_lent P row table ≡ accep
       let d = both_equal (length row) N (has_length table (suc n * N)) c.1 in
       rw added_marks
       (sym
-      (listed_of (marks (suc h) (each lambda') (each delta') h) N row d.0 (λ x lx. sym (rw (e, get_D_listed Λ' N x 0 lx, get_D_listed Δ' N x 0 lx) (marks_new n N h (lambda_of P) (delta_of P) (each row) p.marked x lx)))))
+      (listed_of (marks (suc h) (each lambda') (each delta') h) N row d.0 (λ x lx. sym (rw (e, get_or_listed Λ' N x 0 lx, get_or_listed Δ' N x 0 lx) (marks_new n N h (lambda_of P) (delta_of P) (each row) p.marked x lx)))))

@@ -24,7 +24,7 @@ use Rattle.maps.specs.AddLevel.{at_row8, number20, add_lent, add_lambda, add_del
 use Rattle.maps.specs.Split.{together}
 use Rattle.maps.proofs.Small.{corners}
 use Rattle.maps.proofs.Names.{every, every_at}
-use Rattle.laws.proofs.Tables.{length_listed, get_D_listed, listed_same, explicit_same}
+use Rattle.laws.proofs.Tables.{length_listed, get_or_listed, listed_same, explicit_same}
 use Rattle.facts.proofs.Levels.{level_valid}
 use Rattle.facts.proofs.Kernels.{removal_valid}
 use Rattle.facts.proofs.Agreement.{removal_local, kernel_same}
@@ -108,7 +108,7 @@ module _ (P : Folded) (table row₁ row₂ : List ℕ) (p₁ : Addable P row₁ 
   both = both_rows P row₁ row₂
 
   both_at : (d : ℕ) → d < N → together n m₁ m₂ d ≡ each both d
-  both_at d ld = sym (get_D_listed (together n m₁ m₂) N d 0 ld)
+  both_at d ld = sym (get_or_listed (together n m₁ m₂) N d 0 ld)
 
   both_row : Row n N h Λ (each both)
   both_row = record {
@@ -146,11 +146,11 @@ module _ (P : Folded) (table row₁ row₂ : List ℕ) (p₁ : Addable P row₁ 
 
   lambda_is : (d : ℕ) → d < N → addΛ n h Λ m₁ d ≡ Λ₁ d
   unfolding add_lambda
-  lambda_is d ld = rw e₁ (sym (get_D_listed (addΛ n h Λ m₁) N d 0 ld))
+  lambda_is d ld = rw e₁ (sym (get_or_listed (addΛ n h Λ m₁) N d 0 ld))
 
   delta_is : (d : ℕ) → d < N → addΔ n Δ m₁ d ≡ Δ₁ d
   unfolding add_delta
-  delta_is d ld = rw e₁ (sym (get_D_listed (addΔ n Δ m₁) N d 0 ld))
+  delta_is d ld = rw e₁ (sym (get_or_listed (addΔ n Δ m₁) N d 0 ld))
 
   lambda_long : length (add_lambda P row₁ table) ≡ N
   unfolding add_lambda

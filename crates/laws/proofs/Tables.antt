@@ -18,10 +18,10 @@ unfolding listed
 length_listed f zero = refl
 length_listed f (suc m) = omega (arith, length-append (listed f m) (f m ∷ []), length_listed f m)
 
-pub get_D_listed : (f : ℕ → ℕ) (m x z : ℕ) → x < m → get_or (listed f m) x z ≡ f x
+pub get_or_listed : (f : ℕ → ℕ) (m x z : ℕ) → x < m → get_or (listed f m) x z ≡ f x
 unfolding listed
-get_D_listed f zero x z l = absurd (omega arith)
-get_D_listed f (suc m) x z l = go (eqb x m) refl (λ k. get_D_listed f m x z k)
+get_or_listed f zero x z l = absurd (omega arith)
+get_or_listed f (suc m) x z l = go (eqb x m) refl (λ k. get_or_listed f m x z k)
   where
     go : (b : Bool) → eqb x m ≡ b → (x < m → get_or (listed f m) x z ≡ f x) → get_or (listed f m ++ (f m ∷ [])) x z ≡ f x
     go true q ih =
@@ -35,10 +35,10 @@ get_D_listed f (suc m) x z l = go (eqb x m) refl (λ k. get_D_listed f m x z k)
 
 -- a list that has the function's value at each place is the function's list
 pub listed_of : (f : ℕ → ℕ) (m : ℕ) (list : List ℕ) → length list ≡ m → ((x : ℕ) → x < m → get_or list x 0 ≡ f x) → list ≡ listed f m
-listed_of f m list e h = ext_get_or 0 list (listed f m) (e ∙ sym (length_listed f m)) (λ x l. h x (omega arith) ∙ sym (get_D_listed f m x 0 (omega arith)))
+listed_of f m list e h = ext_get_or 0 list (listed f m) (e ∙ sym (length_listed f m)) (λ x l. h x (omega arith) ∙ sym (get_or_listed f m x 0 (omega arith)))
 
 pub listed_same : (f g : ℕ → ℕ) (m : ℕ) → ((x : ℕ) → x < m → f x ≡ g x) → listed f m ≡ listed g m
-listed_same f g m h = listed_of g m (listed f m) (length_listed f m) (λ x l. get_D_listed f m x 0 l ∙ h x l)
+listed_same f g m h = listed_of g m (listed f m) (length_listed f m) (λ x l. get_or_listed f m x 0 l ∙ h x l)
 
 -- one store more: places below i hold the function's values, and now place i does
 pub set_below : (f : ℕ → ℕ) (list : List ℕ) (i v : ℕ) → i < length list → ((x : ℕ) → x < i → get_or list x 0 ≡ f x) → v ≡ f i → (x : ℕ) → x < i + 1 → get_or (set list i v) x 0 ≡ f x
@@ -78,7 +78,7 @@ next_row i N = let s : suc i ≡ i + 1 = omega arith in omega (arith, suc-mul i 
 pub entry_explicit : (a : Involutions) (n N : ℕ) (present : ℕ → Bool) (i d : ℕ) → i ≤ n → d < N → entry N (explicit a n N present) i d ≡ cond (present d) (a i d) absent
 unfolding explicit
 entry_explicit a n N present i d li ld =
-    get_D_listed (λ x. cond (present (x % N)) (a (x / N) (x % N)) absent) (suc n * N) (i * N + d) 0 (in_table n N i d li ld)
+    get_or_listed (λ x. cond (present (x % N)) (a (x / N) (x % N)) absent) (suc n * N) (i * N + d) 0 (in_table n N i d li ld)
     ∙ rw (digits_mod i ld, digits_div i ld)
 
 pub length_explicit : (a : Involutions) (n N : ℕ) (present : ℕ → Bool) → length (explicit a n N present) ≡ suc n * N

@@ -38,7 +38,7 @@ use Rattle.maps.specs.Join.{join_lent, join_height, join_lambda, join_leaves}
 use Rattle.maps.specs.NewBase.{kth}
 use Rattle.maps.specs.Rebase.{packed, rebase_lent, rebase_darts, rebase_height, rebase_rows, rebase_lambda, rebase_delta, rebase_old, rebase_table}
 use Rattle.maps.specs.Regions.{regions_lent, regions_table}
-use Rattle.maps.specs.Partner.{number2_M, outside, edges_back, had, number21, import_lent, export_lent}
+use Rattle.maps.specs.Partner.{number2_m, outside, edges_back, had, number21, import_lent, export_lent}
 use Rattle.maps.proofs.Small.{one, both, corner, corners, two_sides, apart, star, shorter, unlike, too_high, later, sevens}
 
 -- ---- what is lent
@@ -280,7 +280,7 @@ pub record SmallJobs : Type 0 where
 
 -- by computation
 pub small_jobs : SmallJobs
-unfolding is_mark between has_beyond beyond scan count sum go_on removal listed explicit foldΛ foldΔ level number1 number2 number3 number4 number11 number13 sizes walk_from walk since_of largest trail_from trail since latest read_base over_level read_level by_levels reads cost at5 at6 at7 check5 check6 check7 check_map at9 at10 check9 check10 check_kernel at8 check8 kernel_at check_kernels check_pyramid check_base check_explicit left_behind check_lent check_with check_with_leaves check_leaves at_row8 number20 add_lent add_height add_lambda add_delta add_leaves at_marks8 marks_lent marks_leaves question read_lent read_since read_lent_by_levels at_walk unfold_lent unfold_total unfold_since unfold_leaves stacked by_level blocks_left unfold_all_lent unfold_all_tables unfold_all_counts unfold_all_since row_lent row_part at_lambda8 survivors_lent word ones_in ones survivor_words survivor_count mark_lent field formed record_rows record_lambda record_delta record_lent take_lent take_rows take_lambda take_delta take_table field_written in_two_bytes row_of rows_written written write_lent write_length write_table write_leaves convert_lent convert_length convert_leaves decimation_lent decimation_empty decimation_factor decimation_table div of_int round of_bits census_lent census_table join_lent join_height join_lambda join_leaves kth packed rebase_lent rebase_darts rebase_height rebase_rows rebase_lambda rebase_delta rebase_old rebase_table regions_lent regions_table number2_M outside edges_back had number21 import_lent export_lent
+unfolding is_mark between has_beyond beyond scan count sum go_on removal listed explicit foldΛ foldΔ level number1 number2 number3 number4 number11 number13 sizes walk_from walk since_of largest trail_from trail since latest read_base over_level read_level by_levels reads cost at5 at6 at7 check5 check6 check7 check_map at9 at10 check9 check10 check_kernel at8 check8 kernel_at check_kernels check_pyramid check_base check_explicit left_behind check_lent check_with check_with_leaves check_leaves at_row8 number20 add_lent add_height add_lambda add_delta add_leaves at_marks8 marks_lent marks_leaves question read_lent read_since read_lent_by_levels at_walk unfold_lent unfold_total unfold_since unfold_leaves stacked by_level blocks_left unfold_all_lent unfold_all_tables unfold_all_counts unfold_all_since row_lent row_part at_lambda8 survivors_lent word ones_in ones survivor_words survivor_count mark_lent field formed record_rows record_lambda record_delta record_lent take_lent take_rows take_lambda take_delta take_table field_written in_two_bytes row_of rows_written written write_lent write_length write_table write_leaves convert_lent convert_length convert_leaves decimation_lent decimation_empty decimation_factor decimation_table div of_int round of_bits census_lent census_table join_lent join_height join_lambda join_leaves kth packed rebase_lent rebase_darts rebase_height rebase_rows rebase_lambda rebase_delta rebase_old rebase_table regions_lent regions_table number2_m outside edges_back had number21 import_lent export_lent
 small_jobs = record {
   check_base_lem = (refl, refl, refl, refl, refl, refl, refl, refl, refl, refl);
   check_explicit_lem = (refl, refl, refl);

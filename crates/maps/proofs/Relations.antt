@@ -21,7 +21,7 @@ use Rattle.maps.specs.Folded.{survives, marks, level, base, lambda_of, delta_of}
 use Rattle.maps.specs.Check.{at5, at6, at7, check5, check6, check7, check_map}
 use Rattle.maps.specs.MarkCells.{WouldBeMarked, LeftUnmarked, Marked, CellsMarked}
 use Rattle.maps.specs.Census.{CellCount, alternating, CensusOf}
-use Rattle.maps.specs.Partner.{number2_M, import_lent, export_lent, Yields, NoRows, Exports}
+use Rattle.maps.specs.Partner.{number2_m, import_lent, export_lent, Yields, NoRows, Exports}
 use Rattle.maps.proofs.Small.{one, corners, partner_base}
 use Rattle.maps.proofs.Names.{every, every_at}
 
@@ -210,13 +210,13 @@ zero_at (suc (suc (suc k))) = refl
 
 -- where two rows yield a base, a_2 of 0 is 1
 single_none : NoRows single
-unfolding number2_M import_lent
+unfolding number2_m import_lent
 single_none zero edge vertex y = let q : refused 2 0 0 0 ≡ accepted = y.taken in let z : ◌≡◌ {A = ℕ} 0 1 = cc in omega arith
 single_none (suc M) edge vertex y = omega (arith, (y.base.a2 0 (omega arith)).0, zero_at (2 * (2 * suc M) + 2 * 0))
 
 -- in M1 0 leads to 3 by a_0, and 3 is 2·1 + 1
 edge_first : (M : ℕ) (edge vertex : List ℕ) → Yields M edge vertex partner_base → each edge 0 ≡ 1
-unfolding number2_M import_lent
+unfolding number2_m import_lent
 edge_first zero edge vertex y = let q : refused 2 0 0 0 ≡ accepted = y.taken in let z : ◌≡◌ {A = ℕ} 0 1 = cc in absurd (omega arith)
 edge_first (suc M) edge vertex y =
     let first : 0 * (2 * suc M) + 2 * 0 ≡ 0 = omega arith in

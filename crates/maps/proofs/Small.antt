@@ -22,7 +22,7 @@ use Rattle.maps.specs.Join.{join_lent, join_height, join_lambda}
 use Rattle.maps.specs.Check.{at5, at6, at7, check5, check6, check7, check_map, at9, at10, check9, check10, check_kernel, at8, check8, kernel_at, check_kernels, check_pyramid}
 use Rattle.maps.specs.CheckPyramid.{left_behind, check_lent, check_leaves}
 use Rattle.maps.specs.Record.{wide, field, formed, record_rows, record_lambda, record_delta, record_lent, take_lent, take_rows, take_lambda, take_delta, take_table}
-use Rattle.maps.specs.Partner.{Becomes, number2_M, outside, edges_back, had, number21, import_lent, export_lent}
+use Rattle.maps.specs.Partner.{Becomes, number2_m, outside, edges_back, had, number21, import_lent, export_lent}
 
 -- a folded pyramid as it is lent: n, N, h, rows, Λ, Δ
 abbrev pub verdict : Folded → Verdict
@@ -366,7 +366,7 @@ pub record SmallPartner : Type 0 where
   pub two_to_one : import_lent 6 partner_edges (2 ∷ 1 ∷ 4 ∷ 3 ∷ 0 ∷ 4 ∷ []) partner_base ≡ refused 21 0 1 5
 
 pub small_partner : SmallPartner
-unfolding scan at5 at6 at7 check5 check6 check7 check_map number2 number4 number2_M outside edges_back had number21 import_lent export_lent
+unfolding scan at5 at6 at7 check5 check6 check7 check_map number2 number4 number2_m outside edges_back had number21 import_lent export_lent
 small_partner = record {
   taken = refl;
   becomes = record {

@@ -14,8 +14,8 @@ pub record Becomes (M : ℕ) (edge vertex : ℕ → ℕ) (a : Involutions) : Typ
   pub a0 : (d : ℕ) → d < M → (a 0 (2 * d) ≡ 2 * edge d + 1) × (a 0 (2 * d + 1) ≡ 2 * edge d)
 
 -- Scope: 'Numbers of refusal'. 2 of a partner's map: M is not 1 to 2,048.
-unfoldable pub number2_M : ℕ → Verdict
-number2_M M = when (not (leb 1 M && leb M 2048)) (refused 2 0 0 0)
+unfoldable pub number2_m : ℕ → Verdict
+number2_m M = when (not (leb 1 M && leb M 2048)) (refused 2 0 0 0)
 
 -- Scope: 'Numbers of refusal'. 5 of a partner's row: an entry is M or more. Edges are involution 0, vertices involution 1.
 unfoldable pub outside : ℕ → ℕ → List ℕ → Verdict
@@ -37,7 +37,7 @@ number21 M vertices = scan M (λ d. when (had vertices (each vertices d) d) (ref
 -- Scope: 'Bring in a combinatorial map'. M, the lengths, 5 of the edge row and of the vertex row, 6, 21.
 unfoldable pub import_lent : ℕ → List ℕ → List ℕ → List ℕ → Verdict
 import_lent M edges vertices rows =
-    number2_M M
+    number2_m M
     then (number4 (has_length edges M && (has_length vertices M && has_length rows (6 * M)))
     then (outside M 0 edges
     then (outside M 1 vertices

@@ -27,7 +27,7 @@ use Rattle.answers.proofs.is_gone.Reads as is-gone
 use Rattle.answers.proofs.in_kernel.Reads as in-kernel
 use Rattle.answers.proofs.marks_refused.Reads as marks-refused
 use Rattle.answers.proofs.marks_refusal.Reads as marks-refusal
-use Rattle.answers.proofs.numbers_of.Reads as Numbers-of
+use Rattle.answers.proofs.numbers_of.Reads as numbers-of
 use Rattle.bases.proofs.check_base.Reads as check-base
 use Rattle.bases.proofs.check_explicit.Reads as check-explicit
 use Rattle.checking.proofs.early.Reads as early
@@ -209,7 +209,7 @@ marks_refused_one κs = one_outcome _ _ _ (λ a r. r) (λ r. r) (λ a r. refl) _
 pub marks_refusal_one : (κs : Lfts 2) → OneOutcome (marks-refusal.Learnt κs) (λ r. r) nothing
 marks_refusal_one κs = one_outcome _ _ _ (λ a. verdict_of) check_from (λ a. check_told) _ _ (λ a r s c. (c, refl))
 
-pub numbers_of_one : (κs : Lfts 0) → OneOutcome (Numbers-of.Learnt κs) (λ r. r) nothing
+pub numbers_of_one : (κs : Lfts 0) → OneOutcome (numbers-of.Learnt κs) (λ r. r) nothing
 numbers_of_one κs = one_outcome _ _ _ (λ a. said) numbers_from (λ a. numbers_told) _ _ (λ a r s c. (c, refl))
 
 pub both_one : (κs : Lfts 0) → OneOutcome (both.Learnt κs) (λ r. r) nothing

@@ -15,7 +15,7 @@ use Rattle.maps.specs.Folded.{survives}
 use Rattle.maps.specs.NewBase.{kth, rank, old_number, new_darts}
 use Rattle.maps.specs.Rebase.{packed}
 use Rattle.laws.proofs.Counting.{count_more, count_le}
-use Rattle.laws.proofs.Tables.{listed_of, listed_same, get_D_listed, length_listed, next_row, place}
+use Rattle.laws.proofs.Tables.{listed_of, listed_same, get_or_listed, length_listed, next_row, place}
 use Rattle.packing.specs.Packing.{Packs, Inside}
 use Rattle.packing.proofs.Numbering.{count_passes, kth_is}
 
@@ -168,7 +168,7 @@ module _ (Λ : ℕ → ℕ) (l N : ℕ) where
       at_row j d lj ld q true z =
           let k : j ≡ i = eqb-true j i z in
           let old : get_or mid (i * N + d) 0 ≡ entry N before i d = s.rest (i * N + d) (omega arith) in
-          rw k (t.done d ld q ∙ ap (each ranks) old ∙ ap (λ (r : List ℕ). each r (entry N before i d)) e ∙ get_D_listed (rank Λ l) N (entry N before i d) 0 (inside d ld q))
+          rw k (t.done d ld q ∙ ap (each ranks) old ∙ ap (λ (r : List ℕ). each r (entry N before i d)) e ∙ get_or_listed (rank Λ l) N (entry N before i d) 0 (inside d ld q))
       at_row j d lj ld q false z =
           let ne : j ≡ i → ⊥ = eqb-false j i z in
           let below : (j + 1) * M ≤ i * M = mul-le-mul_right M (omega arith) in

@@ -19,7 +19,7 @@ use Rattle.maps.specs.Cost.{reads}
 use Rattle.maps.specs.Pyramid.{Pyramid}
 use Rattle.maps.specs.CheckPyramid.{check_lent}
 use Rattle.laws.proofs.Counting.{count_le}
-use Rattle.laws.proofs.Tables.{length_listed, get_D_listed, in_table}
+use Rattle.laws.proofs.Tables.{length_listed, get_or_listed, in_table}
 use Rattle.facts.proofs.Checks.{pyramid_check}
 use Rattle.facts.proofs.Facts.{Facts, facts}
 use Rattle.facts.proofs.AcceptedJobs.{accepted_pyramid}
@@ -35,7 +35,7 @@ module _ (value : ℕ → ℕ) (m filler size : ℕ) (fits : m ≤ size) where
   -- the entry of a packed place
   pub packed_at : (x : ℕ) → x < m → get_or (packed value m filler size) x 0 ≡ value x
   unfolding packed
-  packed_at x f = get_D_listed (λ z. cond (ltb z m) (value z) filler) size x 0 (omega arith) ∙ rw (lt-ltb x m f)
+  packed_at x f = get_or_listed (λ z. cond (ltb z m) (value z) filler) size x 0 (omega arith) ∙ rw (lt-ltb x m f)
 
   -- the same of the front alone
   pub front_at : (x : ℕ) → x < m → get_or (take m (packed value m filler size)) x 0 ≡ value x

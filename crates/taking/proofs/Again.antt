@@ -16,7 +16,7 @@ use Rattle.maps.specs.Table.{listed}
 use Rattle.maps.specs.Record.{Allowed, byte, two_bytes, field, record_dimension, record_height, record_darts, one_byte, lambda_at, delta_at, record_entry, record_rows, record_lambda, record_delta, record_lent}
 use Rattle.maps.specs.Write.{field_written, in_two_bytes, row_of, rows_written, written}
 use Rattle.laws.proofs.Verdicts.{then_accepted, when_accepted, scan_accepted}
-use Rattle.laws.proofs.Tables.{length_listed, get_D_listed, listed_of, in_table}
+use Rattle.laws.proofs.Tables.{length_listed, get_or_listed, listed_of, in_table}
 use Rattle.laws.proofs.Sizes.{Sized, sizes_sized}
 use Rattle.taking.specs.Parts.{row_from, marks_at, row_field, room_of, rest_of, entry_from, Below}
 use Rattle.taking.proofs.Fields.{length_two, low_two, high_two}
@@ -99,7 +99,7 @@ module _ (bytes : List ℕ) (small : Below 256 bytes) where
       let f : ℕ → ℕ = λ d. two_bytes bytes (at + 2 * d) in
       let e = length_listed f N in
       two_bytes_of (listed f N) (part bytes at (2 * N)) (part_long bytes at (2 * N) l ∙ ap (λ (x : ℕ). 2 * x) (sym e)) (λ d k.
-      let v = get_D_listed f N d 0 (omega arith) in
+      let v = get_or_listed f N d 0 (omega arith) in
       let z : at + (2 * d + 1) ≡ at + 2 * d + 1 = omega arith in
       let low = part_at bytes at (2 * N) (2 * d) (omega arith) in
       let high : get_or (part bytes at (2 * N)) (2 * d + 1) 0 ≡ get_or bytes (at + 2 * d + 1) 0 = rw z at (part_at bytes at (2 * N) (2 * d + 1) (omega arith)) in
@@ -204,7 +204,7 @@ module _ (bytes : List ℕ) (allowed : Allowed) (rows lambda delta table : List 
       get_or-take N (drop (i * N) R) d 0 f
       ∙ get_or-drop (i * N) R d 0
       ∙ ap (λ (x : List ℕ). get_or x (i * N + d) 0) rows_are
-      ∙ get_D_listed v (suc n * N) (i * N + d) 0 (in_table n N i d l f)
+      ∙ get_or_listed v (suc n * N) (i * N + d) 0 (in_table n N i d l f)
       ∙ ap₂ (record_entry bytes allowed) (digits_div i f) (digits_mod i f)
       ∙ ap (λ (one : Bool). entry_from bytes one (row_from N one i + 3) d) two)
 

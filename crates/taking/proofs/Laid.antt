@@ -11,7 +11,7 @@ use lib.Dec.{eqb, ltb}
 use borrow.Author.Tests.{ltb-true, ltb-false, eqb-true, eqb-false}
 use Rattle.maps.specs.Record.{byte}
 use Rattle.maps.specs.Table.{listed}
-use Rattle.laws.proofs.Tables.{length_listed, get_D_listed}
+use Rattle.laws.proofs.Tables.{length_listed, get_or_listed}
 use Rattle.taking.specs.Parts.{byte_from, Laid}
 
 pub laid_none : (value : ℕ → ℕ) (at : ℕ) (slice : List ℕ) → Laid value at 0 slice slice
@@ -76,4 +76,4 @@ laid_front {value} {m} {old} {new} list long same s l =
         ∙ sym (ap (λ (q : ℕ). get_or (list ++ drop m old) q 0) z ∙ get_or-append-add list (drop m old) (x - m) 0 ∙ get_or-drop m old (x - m) 0 ∙ ap (λ (q : ℕ). get_or old q 0) y)
 
 pub laid_listed : {value : ℕ → ℕ} {m : ℕ} {old new : List ℕ} → Laid value 0 m old new → m ≤ length old → new ≡ listed value m ++ drop m old
-laid_listed {value} {m} s l = laid_front (listed value m) (length_listed value m) (λ x k. get_D_listed value m x 0 k) s l
+laid_listed {value} {m} s l = laid_front (listed value m) (length_listed value m) (λ x k. get_or_listed value m x 0 k) s l

@@ -1,7 +1,7 @@
 -- What an answer says, in the definitions' values. Assumes nothing: these are definitions.
 use Rattle.std.specs.Prelude.{List, ℕ}
 use Rattle.maps.specs.Verdict.{Verdict, accepted, if_accepted}
-use Rattle.maps.specs.Record.{Allowed as Allowed_rows, wide, either, record_dimension, record_height, record_darts, record_lent, take_lent}
+use Rattle.maps.specs.Record.{Allowed as AllowedRows, wide, either, record_dimension, record_height, record_darts, record_lent, take_lent}
 use Rattle.answers.specs.Numbers.{refusal_of}
 use Rattle.taking.specs.declared.Allowed.{Allowed}
 use Rattle.taking.specs.declared.Allowed.TheVariants.{Wide, Either}
@@ -25,14 +25,14 @@ taken_of (Record sizes) = saying accepted sizes.n.0 sizes.h.0 sizes.darts
 taken_of (Refused r) = saying (refusal_of r) 0 0 0
 
 -- the rows that a reader allows
-abbrev pub allowed_of : Allowed → Allowed_rows
+abbrev pub allowed_of : Allowed → AllowedRows
 allowed_of Wide = wide
 allowed_of Either = either
 
 -- what unpacking a record answers
-abbrev pub unpacked : List ℕ → Allowed_rows → List ℕ → List ℕ → List ℕ → List ℕ → Outcome
+abbrev pub unpacked : List ℕ → AllowedRows → List ℕ → List ℕ → List ℕ → List ℕ → Outcome
 unpacked bytes allowed rows lambda delta table = saying (record_lent bytes allowed rows lambda delta table) (record_dimension bytes) (record_height bytes) (record_darts bytes)
 
 -- what taking it answers
-abbrev pub taken : List ℕ → Allowed_rows → List ℕ → List ℕ → List ℕ → List ℕ → Outcome
+abbrev pub taken : List ℕ → AllowedRows → List ℕ → List ℕ → List ℕ → List ℕ → Outcome
 taken bytes allowed rows lambda delta table = saying (take_lent bytes allowed rows lambda delta table) (record_dimension bytes) (record_height bytes) (record_darts bytes)

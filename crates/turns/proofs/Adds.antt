@@ -14,7 +14,7 @@ use Rattle.maps.specs.MarkRow.{Row}
 use Rattle.maps.specs.Table.{each, listed}
 use Rattle.maps.specs.Folded.{Folded, lambda_of, delta_of, removed_below, addΛ, addΔ, of_parts}
 use Rattle.maps.specs.AddLevel.{refused_mark, at_row8, number20}
-use Rattle.laws.proofs.Tables.{get_D_listed, length_listed}
+use Rattle.laws.proofs.Tables.{get_or_listed, length_listed}
 use Rattle.laws.proofs.Verdicts.{then_accepted, when_accepted, scan_accepted, and_both}
 use Rattle.facts.proofs.Adding.{allowed_added}
 use Rattle.answers.specs.Lent.{lent_of}
@@ -55,7 +55,7 @@ module _ (f : Folded) (row : List ℕ) where
         lambda_long = length_listed Λ' N;
         delta_long = length_listed Δ' N;
         valid = b.valid;
-        allowed = λ d ld. rw (get_D_listed Λ' N d 0 ld, get_D_listed Δ' N d 0 ld) (allowed_added n N h (each lambda) (each delta) (each row) k d ld (b.allowed d ld));
+        allowed = λ d ld. rw (get_or_listed Λ' N d 0 ld, get_or_listed Δ' N d 0 ld) (allowed_added n N h (each lambda) (each delta) (each row) k d ld (b.allowed d ld));
       }
 
   -- 2n+8 for each dart gone, those of the mark row among them

@@ -13,7 +13,7 @@ use Rattle.maps.specs.Table.{entry, each, listed}
 use Rattle.maps.specs.Folded.{Folded}
 use Rattle.maps.specs.CheckPyramid.{table_at}
 use Rattle.maps.specs.UnfoldAll.{by_level, total_at, latest_at}
-use Rattle.laws.proofs.Tables.{listed_of, get_D_listed, table_size, in_table}
+use Rattle.laws.proofs.Tables.{listed_of, get_or_listed, table_size, in_table}
 use Rattle.kernels.specs.Strings.{kernel_row, Linked, Strung}
 use Rattle.kernels.specs.Ready.{Ready}
 use Rattle.climbing.proofs.Rows.{RowTo, row_none, row_set}
@@ -35,7 +35,7 @@ unfolding by_level
 all_told value h counts k r long = listed_of _ 33 counts long (λ l lt. go l lt (ltb h l) refl)
   where
     go : (l : ℕ) → l < 33 → (x : Bool) → ltb h l ≡ x → get_or counts l 0 ≡ cond (ltb h l) 0 (value l)
-    go l lt true q = rw q (r.rest l (omega (arith, ltb-true h l q)) ∙ get_D_listed (λ _. 0) 33 l 0 lt)
+    go l lt true q = rw q (r.rest l (omega (arith, ltb-true h l q)) ∙ get_or_listed (λ _. 0) 33 l 0 lt)
     go l lt false q = rw q (r.done l (omega (arith, ltb-false h l q)))
 
 module _ (f : Folded) (tables : List ℕ) (L : Levels f tables) (l : ℕ) (k : l < f.h) (size from : ℕ) (size_is : size ≡ suc f.n * f.N) (from_is : from ≡ l * size) where

@@ -1,3 +1,4 @@
+-- `programs::read_full` meets its contract. The invariant: what stands in the buffer is no longer than it. The measure is the room left. Assumes nothing.
 use Rattle.std.proofs.Common.{length, ◌-◌, ◌≤◌}
 use Rattle.programs.proofs.read_full.Given as goal
 
