@@ -19,7 +19,7 @@ CRATES = ROOT / "crates"
 LOG = Path(os.environ.get("GATE") or ROOT / "target" / "gate.log")
 PAGES = [ROOT / "docs" / "CONTRACTS.md", ROOT / "docs" / "DEMANDS.md"]
 # what small maps are held to, by computation
-CLAIMS = {"small_maps", "small_links", "small_factors", "small_joins", "small_contractions", "small_record", "small_partner", "small_jobs", "small_names", "small_relations", "star_again"}
+CLAIMS = {"small_maps", "small_links", "small_factors", "small_joins", "small_contractions", "small_record", "small_partner", "small_jobs", "small_names", "small_relations", "star_again_lem"}
 
 # lemmas that stand before a claim, and the claim that each is for
 LEMMAS = {"marked_one": "small_relations.marked", "left_at": "small_relations.open_piece", "kept": "small_names.passed"}
@@ -65,7 +65,7 @@ def field(file, line, column):
 def shown(name, text):
     """The last column of an edit's row, or nothing: a function or a file of laws, and what is refused of it; of a claim its field."""
     crate = CRATES / name.split("/")[0]
-    if not text.startswith("refused, as it must be"):
+    if not text.startswith("refused, as it must be") or "only because" in text or "only by a limit" in text:
         return ""
     place = re.search(r"(?:\./)?((?:src|specs|proofs)/[\w/+.-]*?\.(?:rt|antt)):(\d+):(\d+): (?:error: )?(?:`([^`]+)`: )?(.*)", text)
     if not place:

@@ -15,7 +15,7 @@ mkdir -p release/{include,libexec/zompelgors,share/zompelgors}
 cp "$root/include/zompelgors.h" release/include && cp -r "$root/samples" release/share/zompelgors &&
     cp "$root/program.sh" "$root"/target/bin/{levels,census,convert} release/libexec/zompelgors || exit 2
 programs=("$work/release/libexec/zompelgors/program.sh")
-# Elsewhere the project runs its programs by the toolchain's emulator, which the stand-in can't name.
+# Elsewhere the project runs its programs by an emulator, which need not be there.
 [ $# -gt 0 ] || programs+=("$root/program.sh")
 
 # call STATUS OUT ERROR WORD..: a call ends so; its output is the file OUT, and ERROR is a line of its error stream, or
