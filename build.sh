@@ -11,6 +11,8 @@ Proves and builds, all of these or those that are named:
   zompelgors, zompelgors_regions    the archives target/staticlib/libNAME.a, by rt lib of the crate NAME_c
   levels, census, convert, edges    the programs target/bin/NAME, by rt run of the crate, on an empty input
 
+All for any x86-64 processor.
+
 What rt says goes to the error stream.
 
 Status: 0 built, 1 something isn't proved or built, 2 no such name, or no command rt.
@@ -36,16 +38,18 @@ command -v rt >/dev/null || {
     exit 2
 }
 mkdir -p target/staticlib target/bin || exit 2
+# Code for every x86-64 processor: rt's default is a later one, and a static library doesn't look what it runs on.
+cpu=x86-64
 
 # put FROM TO: copied beside its place and moved there, so that what is there is whole, or of an earlier run.
 put() { cp "$1" "$2.new" && mv "$2.new" "$2"; }
 for name in "${names[@]}"; do
     case $name in
     zompelgors*)
-        (cd "crates/${name}_c" && rt lib) >&2 && put "crates/${name}_c/out/lib${name}_c.a" "target/staticlib/lib$name.a"
+        (cd "crates/${name}_c" && rt lib --cpu $cpu) >&2 && put "crates/${name}_c/out/lib${name}_c.a" "target/staticlib/lib$name.a"
         ;;
     *)
-        (cd "crates/$name" && rt run </dev/null >/dev/null) >&2 && put "crates/$name/out/$name" "target/bin/$name"
+        (cd "crates/$name" && rt run --cpu $cpu </dev/null >/dev/null) >&2 && put "crates/$name/out/$name" "target/bin/$name"
         ;;
     esac || {
         echo "build.sh: $name isn't proved or built" >&2
