@@ -31,6 +31,10 @@ def public_functions(crate):
     names = re.findall(r"^pub fn (\w+)", source, re.M)
     for item in re.findall(r"^pub use \w+::([^;]*);", source, re.M):
         names += [name for name in re.findall(r"\w+", item) if name[0].islower()]
+    for path in sorted((CRATES / crate / "src").glob("*.rt")):
+        for kind, body in re.findall(r"^impl(?:<[^>]*>)? (\w+)(?:<[^>]*>)? \{\n(.*?)^\}", path.read_text(), re.M | re.S):
+            if any(re.search(rf"^pub struct {kind}\b", p.read_text(), re.M) for p in (CRATES / crate / "src").glob("*.rt")):
+                names += [f"{kind}::{name}" for name in re.findall(r"^    pub fn (\w+)", body, re.M)]
     return {f"{crate}::{name}" for name in names}
 
 
@@ -44,12 +48,16 @@ def all_public():
 
 @lru_cache(None)
 def signature(name):
-    """The file of a public function, and its text up to the body."""
-    crate, function = name.split("::")
+    """The file of a public function or method, and its text up to the body."""
+    crate, *kind, function = name.split("::")
     for path in sorted((CRATES / crate / "src").glob("*.rt")):
-        m = re.search(rf'^pub fn {function}\b.*?^{{', path.read_text(), re.M | re.S)
-        if m:
-            return path, m[0]
+        blocks = [path.read_text()]
+        if kind:
+            blocks = re.findall(rf"^impl(?:<[^>]*>)? {kind[0]}(?:<[^>]*>)? \{{\n.*?^\}}", path.read_text(), re.M | re.S)
+        for block in blocks:
+            m = re.search(rf"^{'    ' if kind else ''}pub fn {function}\b.*?^{'    ' if kind else ''}{{", block, re.M | re.S)
+            if m:
+                return path, m[0]
     raise SystemExit(f"{name} is not found in crates/{crate}/src")
 
 
@@ -88,7 +96,7 @@ def definitions(path):
 def declared(path):
     """All names that a source declares: definitions, theorems and fields, or functions, structs and enums."""
     if path.suffix == ".rt":
-        return frozenset(re.findall(r"^(?:pub(?:\(crate\))? )?(?:extern \"C\" )?(?:fn|struct|enum) (\w+)", text(path), re.M))
+        return frozenset(re.findall(r"^ *(?:pub(?:\(crate\))? )?(?:extern \"C\" )?(?:fn|struct|enum) (\w+)", text(path), re.M))
     cases = [re.findall(r"^ +(\S+) :", data, re.M) for data in re.findall(r"^ *pub data .*?(?=\n\n|\Z)", text(path), re.M | re.S)]
     return frozenset(definitions(path)).union(re.findall(r"^\s*pub (\S+) :", text(path), re.M), *cases)
 
@@ -395,12 +403,12 @@ def outside_differences():
 
 def function_differences():
     """Every public function has its row in docs/CONTRACTS.md, and where it asks nothing its theorem of one outcome."""
-    named = set(re.findall(r"`(\w+::[a-z]\w*)`", (ROOT / "docs" / "CONTRACTS.md").read_text()))
+    named = set(re.findall(r"`(\w+::(?:[A-Z]\w*::)?[a-z]\w*)`", (ROOT / "docs" / "CONTRACTS.md").read_text()))
     for name in sorted(all_public() ^ named):
         yield f"docs/CONTRACTS.md and the sources differ in the public function {name}"
     theorems = "".join((CRATES / "outcomes" / "proofs" / f).read_text() for f in ("Jobs.antt", "Interface.antt"))
     for name in sorted(name for name in all_public() if not asks_its_caller(name)):
-        theorem = name.split("::")[1] + "_one"
+        theorem = name.split("::")[-1] + "_one"
         if not re.search(rf"^pub {re.escape(theorem)} :", theorems, re.M):
             yield f"there is no theorem {theorem} of {name}"
 

@@ -2,4 +2,5 @@ pub mod Bools
 pub mod Refusals
 pub mod Marked
 pub mod Rows
+pub mod Firsts
 mod Counted

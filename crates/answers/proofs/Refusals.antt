@@ -3,7 +3,9 @@ use mathlib.Core.Path.{◌≡◌, refl, sym, ap, ◌∙◌}
 use Prim.Native.Nat.{ℕ}
 use Rattle.maps.specs.Verdict.{Verdict, accepted, refused, if_accepted, ◌then◌}
 use Rattle.answers.specs.Numbers.{refusal_of, verdict_of}
-use Rattle.answers.specs.declared.Check.{Check}
+use Rattle.std.specs.Prelude.{Result, Err}
+use Rattle.std.specs.Result.{IsErrAnd}
+use Rattle.std.proofs.lemmas.Result.{err_from_is_err_and}
 use Rattle.answers.specs.declared.Refusal.{Refusal}
 use Rattle.answers.specs.declared.Refusal.TheVariants.{Dimension, Darts, Height, Length, Strays, NotTwice, NotCommuting, Marks, NotWhole, NotRemovable, NoLevel, NoDart, NoInvolution, NoPass, TooLong, EndsEarly, OtherTag, WrongLength, BytesAfter, Full, TwoToOne, NoRows, Contracted}
 
@@ -51,8 +53,12 @@ pub refusal_keeps : {A : Type 0} (r : Refusal) (v : Verdict) (new old : A) → r
 refusal_keeps r v new old e = let x = refusal_refuses r in let f : v ≡ refused x.number x.level x.involution x.dart = sym e ∙ x.is in rw f
 
 -- what a check that was taken apart said
-pub told : {check is : Check} {v : Verdict} → verdict_of check ≡ v → check ≡ is → verdict_of is ≡ v
+pub told : {A : Type 0} {check is : Result A Refusal} {v : Verdict} → verdict_of check ≡ v → check ≡ is → verdict_of is ≡ v
 told e f = ap verdict_of (sym f) ∙ e
+
+-- what `?` hands on is the refusal that it met
+pub passed_on : {A : Type 0} {r : Refusal} (answer : Result A Refusal) → IsErrAnd answer (λ e. e ≡ r) → answer ≡ Err r
+passed_on answer e = let p = err_from_is_err_and answer e in p.1 ∙ ap Err p.2
 
 -- a job that tests v and then w: it refuses what v refuses, what w refuses after an accepted v, and nothing else
 module _ (lent v w : Verdict) (tests : lent ≡ v then w) where

@@ -3,8 +3,7 @@ use Rattle.maps.specs.Verdict.{Verdict, accepted, refused}
 use Rattle.answers.specs.declared.Refusal.{Refusal}
 use Rattle.answers.specs.declared.Refusal.TheVariants.{Dimension, Darts, Height, Length, Strays, NotTwice, NotCommuting, Marks, NotWhole, NotRemovable, NoLevel, NoDart, NoInvolution, NoPass, TooLong, EndsEarly, OtherTag, WrongLength, BytesAfter, Full, TwoToOne, NoRows, Contracted}
 use Rattle.answers.specs.declared.Numbers.{Numbers}
-use Rattle.answers.specs.declared.Check.{Check}
-use Rattle.answers.specs.declared.Check.TheVariants.{Accepted, Refused}
+use Rattle.std.specs.Prelude.{Result, Ok, Err}
 
 -- number, level, involution and dart
 abbrev pub refusal_of : Refusal → Verdict
@@ -32,9 +31,10 @@ refusal_of (TwoToOne d) = refused 21 0 1 d
 refusal_of NoRows = refused 22 0 0 0
 refusal_of (Contracted d) = refused 23 0 0 d
 
-abbrev pub verdict_of : Check → Verdict
-verdict_of Accepted = accepted
-verdict_of (Refused r) = refusal_of r
+-- what an answer says of being refused, whatever it holds where accepted
+abbrev pub verdict_of : {A : Type 0} → Result A Refusal → Verdict
+verdict_of (Ok _) = accepted
+verdict_of (Err r) = refusal_of r
 
 -- the refusal that four numbers say
 abbrev pub said : Numbers → Verdict

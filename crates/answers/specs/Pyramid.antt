@@ -2,10 +2,15 @@
 use Rattle.std.specs.Prelude.{List, ℕ}
 use Rattle.maps.specs.Folded.{Folded, of_parts}
 use Rattle.answers.specs.declared.Sizes.{Sizes}
+use Rattle.answers.specs.declared.Pyramid.{Pyramid}
 
 -- its sizes, and what its three slices hold
 abbrev pub pyramid : Sizes → List ℕ → List ℕ → List ℕ → Folded
 pyramid sizes rows lambda delta = of_parts sizes.n.0 sizes.darts sizes.h.0 rows lambda delta
+
+-- the pyramid lent as one value
+abbrev pub folded : Pyramid → Folded
+folded p = pyramid p.sizes p.rows.now p.lambda.now p.delta.now
 
 -- its sizes, and the slices themselves
 abbrev pub lent : Sizes → List ℕ → List ℕ → List ℕ → Folded

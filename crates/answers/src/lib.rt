@@ -15,33 +15,27 @@ pub use limits::{
 };
 pub use marks::{
     between, beyond, contracts, has_beyond, is_mark, marks_refusal, marks_refused, removes,
-    row_across, same_mark,
+    row_across,
 };
-pub use tables::{at, commute, delta_at, in_kernel, is_gone, lambda_at, survivors_on, there};
-pub use tests::{asked, both, entries, in_range, lent, pyramid_fits, row_fits, rows_fit};
+use std::fmt;
+pub use tables::{Table, at, copy, delta_at, in_kernel, is_gone, lambda_at, survivors_on};
+pub use tests::{asked, entries, in_range, lent, pyramid_fits, row_fits, rows_fit};
 
 // A level: Λ, h, or a level asked.
-#[derive(Clone, Copy)]
+#[derive(Clone, Copy, Debug, PartialEq, Eq, PartialOrd, Ord)]
 pub struct Level(pub u8);
 
 // A dimension: n, an involution, or the dimension of a cell.
-#[derive(Clone, Copy)]
+#[derive(Clone, Copy, Debug, PartialEq, Eq, PartialOrd, Ord)]
 pub struct Dim(pub u8);
 
 // A mark: Δ, or a byte of a mark row.
-#[derive(Clone, Copy)]
+#[derive(Clone, Copy, Debug, PartialEq, Eq, PartialOrd, Ord)]
 pub struct Mark(pub u8);
 
 // The two rows between which a mark lets a walk pass; the first is its dimension.
 #[derive(Clone, Copy)]
 pub struct Passage(pub Dim, pub Dim);
-
-// How a walk goes on at a dart that it met: by a row, or nowhere.
-#[derive(Clone, Copy)]
-pub enum Onward {
-    By(Dim),
-    Nowhere,
-}
 
 // n, h and N of the pyramid lent.
 #[derive(Clone, Copy)]
@@ -51,7 +45,16 @@ pub struct Sizes {
     pub darts: u16,
 }
 
-// The same, with the level that a job is asked.
+// The pyramid lent: its sizes, its base rows, and Λ and Δ of each dart.
+#[derive(Clone, Copy)]
+pub struct Pyramid<'a> {
+    pub sizes: Sizes,
+    pub rows: &'a [u16],
+    pub lambda: &'a [u8],
+    pub delta: &'a [u8],
+}
+
+// Its sizes, with the level that a job is asked.
 #[derive(Clone, Copy)]
 pub struct AtLevel {
     pub sizes: Sizes,
@@ -67,7 +70,7 @@ pub struct Question {
 }
 
 // Each way to be refused. specs/Numbers gives the document's number and values for each.
-#[derive(Clone, Copy)]
+#[derive(Clone, Copy, Debug, PartialEq, Eq)]
 pub enum Refusal {
     Dimension,
     Darts,
@@ -92,13 +95,6 @@ pub enum Refusal {
     TwoToOne(u16),
     NoRows,
     Contracted(u16),
-}
-
-// The answer of a check.
-#[derive(Clone, Copy)]
-pub enum Check {
-    Accepted,
-    Refused(Refusal),
 }
 
 // A refusal as the document prints it; all four are 0 where accepted.
@@ -135,32 +131,46 @@ fn at_offset(number: u16, offset: u16) -> Numbers
 }
 
 // The document's number and values of a refusal.
-pub fn numbers_of(refusal: Refusal) -> Numbers
-    ensures { said result ≡ refusal_of refusal }
-{
-    match refusal {
-        Refusal::Dimension => at_offset(1, 0),
-        Refusal::Darts => at_offset(2, 0),
-        Refusal::Height => at_offset(3, 0),
-        Refusal::Length => at_offset(4, 0),
-        Refusal::Strays(l, i, d) => placed(5, l, i, d),
-        Refusal::NotTwice(i, d) => placed(6, Level(0), i, d),
-        Refusal::NotCommuting(i, d) => placed(7, Level(0), i, d),
-        Refusal::Marks(l, i, d) => placed(8, l, i, d),
-        Refusal::NotWhole(l, i, d) => placed(9, l, i, d),
-        Refusal::NotRemovable(l, i, d) => placed(10, l, i, d),
-        Refusal::NoLevel(l, i, d) => placed(11, l, i, d),
-        Refusal::NoDart(l, i, d) => placed(12, l, i, d),
-        Refusal::NoInvolution(l, i, d) => placed(13, l, i, d),
-        Refusal::NoPass(l, i, d) => placed(14, l, i, d),
-        Refusal::TooLong(l, i, d) => placed(15, l, i, d),
-        Refusal::EndsEarly(offset) => at_offset(16, offset),
-        Refusal::OtherTag(offset) => at_offset(17, offset),
-        Refusal::WrongLength(offset) => at_offset(18, offset),
-        Refusal::BytesAfter(offset) => at_offset(19, offset),
-        Refusal::Full => at_offset(20, 0),
-        Refusal::TwoToOne(d) => placed(21, Level(0), Dim(1), d),
-        Refusal::NoRows => at_offset(22, 0),
-        Refusal::Contracted(d) => at_offset(23, d),
+impl From<Refusal> for Numbers {
+    ghost from_gives = { λ refusal numbers. said numbers ≡ refusal_of refusal };
+
+    fn from(refusal: Refusal) -> Numbers {
+        match refusal {
+            Refusal::Dimension => at_offset(1, 0),
+            Refusal::Darts => at_offset(2, 0),
+            Refusal::Height => at_offset(3, 0),
+            Refusal::Length => at_offset(4, 0),
+            Refusal::Strays(l, i, d) => placed(5, l, i, d),
+            Refusal::NotTwice(i, d) => placed(6, Level(0), i, d),
+            Refusal::NotCommuting(i, d) => placed(7, Level(0), i, d),
+            Refusal::Marks(l, i, d) => placed(8, l, i, d),
+            Refusal::NotWhole(l, i, d) => placed(9, l, i, d),
+            Refusal::NotRemovable(l, i, d) => placed(10, l, i, d),
+            Refusal::NoLevel(l, i, d) => placed(11, l, i, d),
+            Refusal::NoDart(l, i, d) => placed(12, l, i, d),
+            Refusal::NoInvolution(l, i, d) => placed(13, l, i, d),
+            Refusal::NoPass(l, i, d) => placed(14, l, i, d),
+            Refusal::TooLong(l, i, d) => placed(15, l, i, d),
+            Refusal::EndsEarly(offset) => at_offset(16, offset),
+            Refusal::OtherTag(offset) => at_offset(17, offset),
+            Refusal::WrongLength(offset) => at_offset(18, offset),
+            Refusal::BytesAfter(offset) => at_offset(19, offset),
+            Refusal::Full => at_offset(20, 0),
+            Refusal::TwoToOne(d) => placed(21, Level(0), Dim(1), d),
+            Refusal::NoRows => at_offset(22, 0),
+            Refusal::Contracted(d) => at_offset(23, d),
+        }
+    }
+}
+
+// The four numbers, as a program prints them.
+impl fmt::Display for Refusal {
+    fn fmt<W: fmt::Write>(&self, f: &mut fmt::Formatter<W>) -> fmt::Result {
+        let said = Numbers::from(*self);
+        write!(
+            f,
+            "{} {} {} {}",
+            said.number, said.level, said.involution, said.dart
+        )
     }
 }

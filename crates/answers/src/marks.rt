@@ -1,5 +1,6 @@
 // What a mark lets a walk do, and number 8: the marks of a dart, and of all darts. Assumes nothing.
-ghost use Rattle.std.specs.Prelude.{◌≡◌, true, false, ℕ, ◌<◌, ◌≤◌, length, eqb, ltb};
+ghost use Rattle.std.specs.Prelude.{◌≡◌, true, false, ℕ, ◌<◌, ◌≤◌, length, eqb, ltb, position};
+ghost use Rattle.std.specs.List.{zip};
 ghost use Rattle.maps.specs.Verdict.{scan};
 ghost use Rattle.maps.specs.Mark.{is_mark, stay, between as between_of, lower, has_beyond, beyond as beyond_of};
 ghost use Rattle.maps.specs.Table.{each};
@@ -8,9 +9,7 @@ ghost use Rattle.maps.specs.MarksBack.{at_marks8};
 ghost use Rattle.answers.specs.Numbers.{verdict_of};
 ghost use Rattle.answers.specs.Marked.{Goes, marks_refusal};
 
-use super::{
-    CONTRACTED, Check, Dim, Level, Mark, Onward, Passage, Refusal, Sizes, delta_at, lambda_at,
-};
+use super::{CONTRACTED, Dim, Level, Mark, Passage, Refusal, Sizes, delta_at, lambda_at};
 
 // A contraction of dimension δ passes between rows δ and δ−1, and δ−2 lies beyond: what its mark is more than each of the last two.
 const CONTRACTED_NEXT: u8 = CONTRACTED + 1;
@@ -34,18 +33,11 @@ pub fn contracts(mark: Mark) -> bool
     CONTRACTED < mark.0
 }
 
-// Is a mark the removal with this dimension?
+// Is a mark the removal with this dimension? A mark and a dimension are two types, so that `==` has no word for it.
 pub fn removes(mark: Mark, dimension: Dim) -> bool
     ensures { result ≡ eqb mark.0 dimension.0 }
 {
     mark.0 == dimension.0
-}
-
-// Are two marks the same?
-pub fn same_mark(mark: Mark, other: Mark) -> bool
-    ensures { result ≡ eqb mark.0 other.0 }
-{
-    mark.0 == other.0
 }
 
 // Is a byte a mark?
@@ -68,18 +60,18 @@ pub fn between(mark: Mark) -> Passage
 }
 
 // The row by which a walk that came by row t goes on past a dart of this mark, if it may.
-pub fn row_across(mark: Mark, t: Dim) -> Onward
+pub fn row_across(mark: Mark, t: Dim) -> Option<Dim>
     requires { mark.0 < stay }
     ensures { Goes mark.0 t.0 result }
 {
     let low = lower_row(mark);
     if t.0 == low.0 {
-        return Onward::By(Dim(t.0 + 1));
+        return Some(Dim(t.0 + 1));
     }
     if t.0 == low.0 + 1 {
-        return Onward::By(Dim(t.0 - 1));
+        return Some(Dim(t.0 - 1));
     }
-    Onward::Nowhere
+    None
 }
 
 // Has the map a row that has to commute with the second of them?
@@ -125,40 +117,32 @@ fn any_refused(n: Dim, h: Level, lambda: &[u8], delta: &[u8]) -> bool
     ensures { result ≡ false → (x : ℕ) → x < length lambda.now → refused_marks n.0 h.0 (each lambda.now x) (each delta.now x) ≡ false }
 {
     let mut any = false;
-    for at in 0..lambda.len() {
-        let refused = marks_refused(n, h, lambda_at(lambda, at), delta_at(delta, at));
-        any = any | refused;
+    for (own, mark) in lambda.iter().zip(delta) {
+        any = any | marks_refused(n, h, Level(*own), Mark(*mark));
     }
     any
 }
 
 // The first dart whose marks are refused.
-fn first_refused(sizes: Sizes, lambda: &[u8], delta: &[u8], level: Level) -> Check
-    requires { (length lambda.now ≡ sizes.darts) × (length delta.now ≡ sizes.darts) }
-    ensures { verdict_of result ≡ scan sizes.darts (at_marks8 sizes.n.0 sizes.h.0 (each lambda.now) (each delta.now) level.0) }
+fn first_refused(sizes: Sizes, lambda: &[u8], delta: &[u8]) -> Option<usize>
+    ensures { result ≡ position (λ p. refused_marks sizes.n.0 sizes.h.0 p.0 p.1) (zip lambda.now delta.now) }
 {
-    for d in 0..sizes.darts {
-        let at = d as usize;
-        if marks_refused(sizes.n, sizes.h, lambda_at(lambda, at), delta_at(delta, at)) {
-            return Check::Refused(Refusal::Marks(level, Dim(0), d));
-        }
-    }
-    Check::Accepted
+    let mut marks = lambda.iter().zip(delta);
+    marks.position(|(own, mark)| marks_refused(sizes.n, sizes.h, Level(*own), Mark(*mark)))
 }
 
 // Number 8 over all darts; the dart is sought only if there is one.
-pub fn marks_refusal(sizes: Sizes, lambda: &[u8], delta: &[u8], level: Level) -> Check
+pub fn marks_refusal(sizes: Sizes, lambda: &[u8], delta: &[u8], level: Level) -> Result<(), Refusal>
     ensures { verdict_of result ≡ marks_refusal sizes.n.0 sizes.darts sizes.h.0 lambda.now delta.now level.0 }
 {
     let width = sizes.darts as usize;
-    if lambda.len() != width {
-        return Check::Refused(Refusal::Length);
-    }
-    if delta.len() != width {
-        return Check::Refused(Refusal::Length);
+    if lambda.len() != width || delta.len() != width {
+        return Err(Refusal::Length);
     }
     if any_refused(sizes.n, sizes.h, lambda, delta) {
-        return first_refused(sizes, lambda, delta, level);
+        if let Some(d) = first_refused(sizes, lambda, delta) {
+            return Err(Refusal::Marks(level, Dim(0), d as u16));
+        }
     }
-    Check::Accepted
+    Ok(())
 }

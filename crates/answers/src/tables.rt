@@ -7,6 +7,42 @@ ghost use Rattle.answers.specs.Rows.{Corner};
 
 use super::{ABSENT, Dim, Level, Mark};
 
+// A table of the rows of a map: its n, its darts, and n+1 rows of so many entries.
+#[derive(Clone, Copy)]
+pub struct Table<'a> {
+    pub n: Dim,
+    pub darts: u16,
+    pub entries: &'a [u16],
+}
+
+impl Table<'_> {
+    // The entry of dart d in row i. The part from row i on is named first: in a loop over darts its start is then computed once.
+    pub fn at(&self, i: Dim, d: u16) -> u16
+        requires { (i.0 * self.now.darts + d < length self.now.entries.now) × (length self.now.entries.now ≤ 20480) }
+        ensures { result ≡ entry self.now.darts self.now.entries.now i.0 d }
+    {
+        at(self.darts, self.entries, i, d)
+    }
+
+    // Is dart d present?
+    pub fn there(&self, d: u16) -> bool
+        requires { (0 * self.now.darts + d < length self.now.entries.now) × (length self.now.entries.now ≤ 20480) }
+        ensures { result ≡ present self.now.darts self.now.entries.now d }
+    {
+        self.at(Dim(0), d) != ABSENT
+    }
+
+    // Does dart d end at the same place by row i and then j as by j and then i?
+    pub fn commute(&self, i: Dim, j: Dim, d: u16) -> bool
+        requires { Corner self.now.darts self.now.entries.now i.0 j.0 d }
+        ensures { result ≡ eqb (entry self.now.darts self.now.entries.now j.0 (entry self.now.darts self.now.entries.now i.0 d)) (entry self.now.darts self.now.entries.now i.0 (entry self.now.darts self.now.entries.now j.0 d)) }
+    {
+        let by_i = self.at(i, d);
+        let by_j = self.at(j, d);
+        self.at(j, by_i) == self.at(i, by_j)
+    }
+}
+
 // The entry of dart d in row i. The part from row i on is named first: in a loop over darts its start is then computed once.
 pub fn at(darts: u16, table: &[u16], i: Dim, d: u16) -> u16
     requires { (i.0 * darts + d < length table.now) × (length table.now ≤ 20480) }
@@ -15,24 +51,6 @@ pub fn at(darts: u16, table: &[u16], i: Dim, d: u16) -> u16
     let start = i.0 as usize * darts as usize;
     let rows = &table[start..];
     rows[d as usize]
-}
-
-// Is dart d present?
-pub fn there(darts: u16, table: &[u16], d: u16) -> bool
-    requires { (0 * darts + d < length table.now) × (length table.now ≤ 20480) }
-    ensures { result ≡ present darts table.now d }
-{
-    at(darts, table, Dim(0), d) != ABSENT
-}
-
-// Does dart d end at the same place by row i and then j as by j and then i?
-pub fn commute(darts: u16, table: &[u16], i: Dim, j: Dim, d: u16) -> bool
-    requires { Corner darts table.now i.0 j.0 d }
-    ensures { result ≡ eqb (entry darts table.now j.0 (entry darts table.now i.0 d)) (entry darts table.now i.0 (entry darts table.now j.0 d)) }
-{
-    let by_i = at(darts, table, i, d);
-    let by_j = at(darts, table, j, d);
-    at(darts, table, j, by_i) == at(darts, table, i, by_j)
 }
 
 // Λ of dart d.
@@ -65,14 +83,14 @@ pub fn in_kernel(lambda: Level, level: Level) -> bool
     lambda.0 == level.0
 }
 
-// How many of the first 128 darts are on a level: a byte holds the count, so the compiler counts 16 darts at a time.
+// How many of 128 darts are on a level: a byte holds the count, so the compiler counts 16 darts at a time.
 fn block_on(part: &[u8], level: Level) -> u8
-    requires { 128 ≤ length part.now }
+    requires { length part.now ≡ 128 }
     ensures { result ≡ survivors 128 (each part.now) level.0 }
 {
     let mut count: u8 = 0;
-    for d in 0..128usize {
-        if level.0 <= part[d] {
+    for own in part {
+        if level.0 <= *own {
             count = count + 1;
         }
     }
@@ -85,8 +103,8 @@ fn rest_on(part: &[u8], level: Level) -> u16
     ensures { result ≡ survivors (length part.now) (each part.now) level.0 }
 {
     let mut count: u16 = 0;
-    for d in 0..part.len() {
-        if !is_gone(lambda_at(part, d), level) {
+    for own in part {
+        if !is_gone(Level(*own), level) {
             count = count + 1;
         }
     }
@@ -102,8 +120,19 @@ pub fn survivors_on(lambda: &[u8], level: Level) -> u16
     let blocks = lambda.len() / 128;
     for b in 0..blocks {
         let start = 128 * b;
-        count = count + block_on(&lambda[start..], level) as u16;
+        let end = start + 128;
+        count = count + u16::from(block_on(&lambda[start..end], level));
     }
     let rest = 128 * blocks;
     count + rest_on(&lambda[rest..], level)
+}
+
+// Copies a slice into another of its length. Not by `copy_from_slice`, which calls memmove: of the C library the archives ask memset and memcpy alone.
+pub fn copy<T: Copy>(from: &[T], to: &mut [T])
+    requires { length to.old ≡ length from.now }
+    ensures { to.new ≡ from.now }
+{
+    for (k, item) in from.iter().enumerate() {
+        to[k] = *item;
+    }
 }

@@ -4,38 +4,28 @@ ghost use Rattle.maps.specs.Sizes.{sizes as sizes_of};
 ghost use Rattle.answers.specs.Numbers.{verdict_of};
 ghost use Rattle.answers.specs.Lent.{lent_of, asked_of};
 
-use super::{Check, Dim, MOST_DARTS, MOST_DIMENSION, MOST_HEIGHT, Question, Refusal, Sizes};
+use super::{Dim, MOST_DARTS, MOST_DIMENSION, MOST_HEIGHT, Question, Refusal, Sizes};
 
 // Numbers 1, 2 and 3.
-pub fn in_range(sizes: Sizes) -> Check
+pub fn in_range(sizes: Sizes) -> Result<(), Refusal>
     ensures { verdict_of result ≡ sizes_of sizes.n.0 sizes.darts sizes.h.0 }
 {
     if sizes.n.0 < 1 {
-        return Check::Refused(Refusal::Dimension);
+        return Err(Refusal::Dimension);
     }
     if MOST_DIMENSION < sizes.n.0 {
-        return Check::Refused(Refusal::Dimension);
+        return Err(Refusal::Dimension);
     }
     if sizes.darts < 1 {
-        return Check::Refused(Refusal::Darts);
+        return Err(Refusal::Darts);
     }
     if MOST_DARTS < sizes.darts {
-        return Check::Refused(Refusal::Darts);
+        return Err(Refusal::Darts);
     }
     if MOST_HEIGHT < sizes.h.0 {
-        return Check::Refused(Refusal::Height);
+        return Err(Refusal::Height);
     }
-    Check::Accepted
-}
-
-// Do both hold?
-pub fn both(first: bool, second: bool) -> bool
-    ensures { result ≡ (first && second) }
-{
-    if first {
-        return second;
-    }
-    false
+    Ok(())
 }
 
 // The entries of n+1 rows.
@@ -63,34 +53,30 @@ pub fn row_fits(darts: u16, length: usize) -> bool
 pub fn pyramid_fits(sizes: Sizes, rows: usize, lambda: usize, delta: usize) -> bool
     ensures { result ≡ (eqb rows (suc sizes.n.0 * sizes.darts) && (eqb lambda sizes.darts && eqb delta sizes.darts)) }
 {
-    let marks = both(row_fits(sizes.darts, lambda), row_fits(sizes.darts, delta));
-    both(rows_fit(sizes.n, sizes.darts, rows), marks)
+    let marks = row_fits(sizes.darts, lambda) && row_fits(sizes.darts, delta);
+    rows_fit(sizes.n, sizes.darts, rows) && marks
 }
 
 // Numbers 1 to 4: the sizes, and whether every slice lent has the exact length.
-pub fn lent(sizes: Sizes, fit: bool) -> Check
+pub fn lent(sizes: Sizes, fit: bool) -> Result<(), Refusal>
     ensures { verdict_of result ≡ lent_of sizes.n.0 sizes.darts sizes.h.0 fit }
 {
-    if let Check::Refused(r) = in_range(sizes) {
-        return Check::Refused(r);
-    }
+    in_range(sizes)?;
     if !fit {
-        return Check::Refused(Refusal::Length);
+        return Err(Refusal::Length);
     }
-    Check::Accepted
+    Ok(())
 }
 
 // Numbers 1 to 4 and 11, which repeats what was asked.
-pub fn asked(sizes: Sizes, fit: bool, question: Question) -> Check
+pub fn asked(sizes: Sizes, fit: bool, question: Question) -> Result<(), Refusal>
     ensures { verdict_of result ≡ asked_of sizes.n.0 sizes.darts sizes.h.0 fit question.level.0 question.involution.0 question.dart }
 {
-    if let Check::Refused(r) = lent(sizes, fit) {
-        return Check::Refused(r);
-    }
+    lent(sizes, fit)?;
     let level = question.level;
     if sizes.h.0 < level.0 {
         let involution = question.involution;
-        return Check::Refused(Refusal::NoLevel(level, involution, question.dart));
+        return Err(Refusal::NoLevel(level, involution, question.dart));
     }
-    Check::Accepted
+    Ok(())
 }

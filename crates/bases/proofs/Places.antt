@@ -15,12 +15,12 @@ use Rattle.maps.specs.Check.{at5, at6, at7, check5, check6, check7}
 use Rattle.laws.proofs.Verdicts.{when_accepted, scan_accepted, scan_all, scan_first, and_both, and_false}
 use Rattle.laws.proofs.Sizes.{lent_sized}
 use Rattle.laws.proofs.Tables.{next_row, table_size, in_table}
+use Rattle.answers.specs.declared.Dim.{Dim}
 use Rattle.answers.specs.Lent.{lent_of}
 use Rattle.answers.specs.Rows.{Rows}
-use Rattle.bases.specs.declared.Test.{Test}
-use Rattle.bases.specs.declared.Test.TheVariants.{Strays, NotTwice}
-use Rattle.bases.specs.InTable.{Row, present_if, strays_in, not_twice_in, not_commuting_in, check5_in, check7_in}
-use Rattle.bases.specs.Places.{number_of, due_at, sought_in}
+use Rattle.bases.specs.declared.Place.{Place}
+use Rattle.bases.specs.InTable.{Row, present_if, strays_in, not_twice_in, not_commuting_in, check5_in, check6_in, check7_in}
+use Rattle.bases.specs.Places.{row as row_of, YesFirst, NeverYes}
 
 -- a table of the exact length, of a map of one dimension or more
 pub lent_rows : (n N : ℕ) (table : List ℕ) → lent_of n N 0 (has_length table (suc n * N)) ≡ accepted → Rows n N table × (0 < n)
@@ -55,17 +55,30 @@ module _ (number N : ℕ) (row : ℕ → ℕ) (test : ℕ → ℕ → Bool) wher
       scan_first m (λ x. scan N (place x)) x number 0 (row x) d lx (rows_none x rows)
       (scan_first N (place x) d number 0 (row x) d ld (scan_all d (place x) (λ e l. rw (darts e l))) (rw t))
 
--- what is sought over rows, then darts, is refused nowhere; or at one place, and at none before it
-pub sought_none : (test : Test) (explicit : Bool) (n N : ℕ) (table : List ℕ) → ((i : ℕ) → i < suc n → (d : ℕ) → d < N → due_at test explicit N table i d ≡ false) → sought_in test explicit n N table ≡ accepted
-unfolding at5 at6 check5 check6
-sought_none Strays explicit n N table = rows_none 5 N (λ i. i) (strays_in explicit N table) (suc n)
-sought_none NotTwice explicit n N table = rows_none 6 N (λ i. i) (not_twice_in explicit N table) (suc n)
+  -- a closure that answers the test: what is first due by it is what is refused
+  module _ (n : ℕ) (says : Dim → ℕ → Bool → Type 0) (answers : (x d : ℕ) (b : Bool) → x ≤ n → d < N → says (row_of x) d b → b ≡ test x d) where
+    no_at : (x d : ℕ) → x ≤ n → d < N → says (row_of x) d false → test x d ≡ false
+    no_at x d lx ld s = sym (answers x d false lx ld s)
 
-pub sought_first : (test : Test) (explicit : Bool) (n N : ℕ) (table : List ℕ) (i d : ℕ) → i < suc n → d < N → ((k : ℕ) → k < i → (e : ℕ) → e < N → due_at test explicit N table k e ≡ false)
-    → ((e : ℕ) → e < d → due_at test explicit N table i e ≡ false) → due_at test explicit N table i d ≡ true → sought_in test explicit n N table ≡ refused (number_of test) 0 i d
-unfolding at5 at6 check5 check6
-sought_first Strays explicit n N table = rows_first 5 N (λ i. i) (strays_in explicit N table) (suc n)
-sought_first NotTwice explicit n N table = rows_first 6 N (λ i. i) (not_twice_in explicit N table) (suc n)
+    pub due_none : NeverYes says n N → scan (suc n) (λ x. scan N (place x)) ≡ accepted
+    due_none h = rows_none (suc n) (λ x l d ld. no_at x d (omega arith) ld (h.rows x (omega arith) d ld))
+
+    pub due_first : (at : Place) → YesFirst says n N at → scan (suc n) (λ x. scan N (place x)) ≡ refused number 0 (row at.row.0) at.dart
+    due_first at h =
+        rows_first (suc n) at.row.0 at.dart (omega (arith, h.in_rows)) h.in_darts
+        (λ k l e le. no_at k e (omega (arith, h.in_rows)) le (h.rows k l e le))
+        (λ e l. no_at at.row.0 e h.in_rows (omega (arith, h.in_darts)) (h.darts e l))
+        (sym (answers at.row.0 at.dart true h.in_rows h.in_darts h.yes))
+
+-- where 5 or 6 is due nowhere, it is not refused
+module _ (explicit : Bool) (n N : ℕ) (table : List ℕ) where
+  pub strays_none : ((i : ℕ) → i < suc n → (d : ℕ) → d < N → strays_in explicit N table i d ≡ false) → check5_in explicit n N table ≡ accepted
+  unfolding at5 check5
+  strays_none = rows_none 5 N (λ i. i) (strays_in explicit N table) (suc n)
+
+  pub not_twice_none : ((i : ℕ) → i < suc n → (d : ℕ) → d < N → not_twice_in explicit N table i d ≡ false) → check6_in explicit n N table ≡ accepted
+  unfolding at6 check6
+  not_twice_none = rows_none 6 N (λ i. i) (not_twice_in explicit N table) (suc n)
 
 -- where every entry is a dart, every dart is present
 pub entry_dart : (n N : ℕ) (table : List ℕ) → Rows n N table → ((k : ℕ) → k < length table → get_or table k 0 < N) → (i d : ℕ) → i ≤ n → d < N → entry N table i d < N
@@ -78,7 +91,7 @@ dart_present false n N table r h d ld = refl
 -- and 5 is not refused
 pub base_none : (explicit : Bool) (n N : ℕ) (table : List ℕ) → Rows n N table → ((k : ℕ) → k < length table → get_or table k 0 < N) → check5_in explicit n N table ≡ accepted
 base_none explicit n N table r h =
-    sought_none Strays explicit n N table (λ i li d ld.
+    strays_none explicit n N table (λ i li d ld.
     let l = entry_dart n N table r h i d (omega arith) ld in
     rw (dart_present explicit n N table r h d ld, lt-ltb (entry N table i d) N l, dart_present explicit n N table r h (entry N table i d) l))
 

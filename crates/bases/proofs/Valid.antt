@@ -11,17 +11,16 @@ use Rattle.maps.specs.Explicit.{present}
 use Rattle.maps.specs.Check.{check_map}
 use Rattle.laws.proofs.Verdicts.{and_false}
 use Rattle.answers.specs.Rows.{Rows}
-use Rattle.bases.specs.declared.Test.TheVariants.{Strays, NotTwice}
 use Rattle.bases.specs.InTable.{present_if, strays_in, check5_in, check_map_in}
 use Rattle.bases.specs.Valid.{AllLed, AllValid, AllKept}
-use Rattle.bases.proofs.Places.{sought_none, none7}
+use Rattle.bases.proofs.Places.{strays_none, not_twice_none, none7}
 
 -- where 5 is not refused, and neither 6 nor 7 is due at a row of a dart present, the map is accepted
 pub all_valid : (explicit : Bool) (n N : ℕ) (table : List ℕ) → check5_in explicit n N table ≡ accepted → AllValid explicit n N table → check_map_in explicit n N table ≡ accepted
 unfolding check_map
 all_valid explicit n N table e h =
     rw
-    (e, sought_none NotTwice explicit n N table (λ i li d ld. and_false (present_if explicit N table d) _ (λ p. (h d ld p i (omega arith)).twice)))
+    (e, not_twice_none explicit n N table (λ i li d ld. and_false (present_if explicit N table d) _ (λ p. (h d ld p i (omega arith)).twice)))
     (none7 explicit n N table (λ i li j lj d ld. and_false (present_if explicit N table d) _ (λ p. (h d ld p i (omega arith)).commuting j (omega arith))))
 
 -- an explicit level whose entries are kept, and 6 is due nowhere
@@ -43,7 +42,7 @@ module _ (n N : ℕ) (table : List ℕ) (r : Rows n N table) (kept : AllKept n N
 
   -- 5 is not refused
   pub kept_none : check5_in true n N table ≡ accepted
-  kept_none = sought_none Strays true n N table (λ i li d ld. stray_none i d (omega arith) ld (present N table d) refl)
+  kept_none = strays_none true n N table (λ i li d ld. stray_none i d (omega arith) ld (present N table d) refl)
 
 -- what is known of n is known of a number m that it is; what is known of m, of n
 module _ (explicit : Bool) (N : ℕ) (table : List ℕ) {n m : ℕ} (e : n ≡ m) where

@@ -1,3 +1,4 @@
 pub mod InTable
+pub mod OfTable
 pub mod Places
 pub mod Valid

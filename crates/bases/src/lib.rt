@@ -1,104 +1,82 @@
 // Check a base, or an explicit level: numbers 1, 2, 4, 5, 6 and 7, with the first place that is refused. Assumes nothing.
 #![tactic(auto)]
 
-ghost use Rattle.std.specs.Prelude.{◌≡◌, true, false, ℕ, ◌+◌, ◌<◌, ◌≤◌, length, get_or};
+ghost use Rattle.std.specs.Prelude.{◌≡◌, true, false, ℕ, ◌+◌, ◌<◌, ◌≤◌, length, get_or, fold, max};
 ghost use Rattle.maps.specs.Verdict.{accepted};
 ghost use Rattle.maps.specs.Table.{entry};
 ghost use Rattle.maps.specs.CheckBase.{check_base, check_explicit};
 ghost use Rattle.answers.specs.Numbers.{verdict_of};
 ghost use Rattle.answers.specs.Rows.{Rows};
-ghost use Rattle.bases.specs.InTable.{Row, present_if, Leads, Crossing, strays_in, not_twice_in, not_commuting_in, check5_in, check7_in, check_map_in, check_in};
-ghost use Rattle.bases.specs.Places.{refused_at, number_of, due_at, sought_in};
+ghost use Rattle.bases.specs.InTable.{present_if, Leads, Crossing, strays_in, not_twice_in, not_commuting_in, check5_in, check6_in, check7_in, check_map_in, check_in};
+ghost use Rattle.bases.specs.OfTable.{HasRow, HasRows};
+ghost use Rattle.bases.specs.Places.{Asked, FirstDue};
 ghost use Rattle.bases.specs.Valid.{Led, ValidAt, Kept, AllLed, AllValid, AllKept};
 
-use answers::{ABSENT, Check, Dim, Level, Refusal, Sizes};
+use answers::{ABSENT, Dim, Level, Refusal, Sizes, Table};
 
-// "The first place found is the one reported": its row and dart.
+// A row and a dart of it.
 #[derive(Clone, Copy)]
-enum Place {
-    Nowhere,
-    At(Dim, u16),
-}
-
-// What is sought over rows, then darts: number 5, or number 6.
-#[derive(Clone, Copy)]
-enum Test {
-    Strays,
-    NotTwice,
+struct Place {
+    row: Dim,
+    dart: u16,
 }
 
 // Is dart d present? In a base every dart is.
-fn there(explicit: bool, table: &[u16], darts: u16, d: u16) -> bool
-    requires { Row darts table.now 0 × (d < darts) }
-    ensures { result ≡ present_if explicit darts table.now d }
+fn there(explicit: bool, table: &Table<'_>, d: u16) -> bool
+    requires { HasRow table.now 0 × (d < table.now.darts) }
+    ensures { result ≡ present_if explicit table.now.darts table.now.entries.now d }
 {
-    if explicit {
-        return answers::there(darts, table, d);
-    }
-    true
+    !explicit || table.there(d)
 }
 
 // Is number 5 due at row i of dart d?
-fn strays(explicit: bool, table: &[u16], darts: u16, i: Dim, d: u16) -> bool
-    requires { Row darts table.now 0 × Row darts table.now i.0 × (d < darts) }
-    ensures { result ≡ strays_in explicit darts table.now i.0 d }
+fn strays(explicit: bool, table: &Table<'_>, i: Dim, d: u16) -> bool
+    requires { HasRow table.now 0 × HasRow table.now i.0 × (d < table.now.darts) }
+    ensures { result ≡ strays_in explicit table.now.darts table.now.entries.now i.0 d }
 {
-    let e = answers::at(darts, table, i, d);
-    if there(explicit, table, darts, d) {
-        if darts <= e {
-            return true;
-        }
-        return !there(explicit, table, darts, e);
+    let e = table.at(i, d);
+    if there(explicit, table, d) {
+        return table.darts <= e || !there(explicit, table, e);
     }
     e != ABSENT
 }
 
 // Is number 6 due at row i of dart d? Where d is present, its entry there is a dart.
-fn not_twice(explicit: bool, table: &[u16], darts: u16, i: Dim, d: u16) -> bool
-    requires { Row darts table.now 0 × Row darts table.now i.0 × (d < darts) × Leads explicit darts table.now i.0 d }
-    ensures { result ≡ not_twice_in explicit darts table.now i.0 d }
+fn not_twice(explicit: bool, table: &Table<'_>, i: Dim, d: u16) -> bool
+    requires { HasRow table.now 0 × HasRow table.now i.0 × (d < table.now.darts) × Leads explicit table.now.darts table.now.entries.now i.0 d }
+    ensures { result ≡ not_twice_in explicit table.now.darts table.now.entries.now i.0 d }
 {
-    if there(explicit, table, darts, d) {
-        let e = answers::at(darts, table, i, d);
-        return answers::at(darts, table, i, e) != d;
+    if there(explicit, table, d) {
+        let e = table.at(i, d);
+        return table.at(i, e) != d;
     }
     false
 }
 
 // Is number 7 due at rows i and j of dart d? Where d is present, its entries there are darts.
-fn not_commuting(explicit: bool, table: &[u16], darts: u16, i: Dim, j: Dim, d: u16) -> bool
-    requires { Crossing explicit darts table.now i.0 j.0 d }
-    ensures { result ≡ not_commuting_in explicit darts table.now i.0 j.0 d }
+fn not_commuting(explicit: bool, table: &Table<'_>, i: Dim, j: Dim, d: u16) -> bool
+    requires { Crossing explicit table.now.darts table.now.entries.now i.0 j.0 d }
+    ensures { result ≡ not_commuting_in explicit table.now.darts table.now.entries.now i.0 j.0 d }
 {
-    if there(explicit, table, darts, d) {
-        let by_i = answers::at(darts, table, i, d);
-        let by_j = answers::at(darts, table, j, d);
-        return answers::at(darts, table, j, by_i) != answers::at(darts, table, i, by_j);
+    if there(explicit, table, d) {
+        return !table.commute(i, j, d);
     }
     false
 }
 
-// Is the number that a test seeks due at row i of dart d?
-fn due(test: Test, explicit: bool, table: &[u16], darts: u16, i: Dim, d: u16) -> bool
-    requires { Row darts table.now 0 × Row darts table.now i.0 × (d < darts) × (test ≡ Test.NotTwice → Leads explicit darts table.now i.0 d) }
-    ensures { result ≡ due_at test explicit darts table.now i.0 d }
+// "The first place found is the one reported": the first over rows, then darts, where a number is due.
+fn first_due<F: Fn(Dim, u16) -> bool>(n: Dim, darts: u16, due: F) -> Option<Place>
+    requires { Asked (F.pre due) n.0 darts × (n.0 ≤ 4) }
+    ensures { FirstDue (F.post due) n.0 darts result }
 {
-    match test {
-        Test::Strays => strays(explicit, table, darts, i, d),
-        Test::NotTwice => not_twice(explicit, table, darts, i, d),
-    }
-}
-
-// Number 5 or 6, sought over rows, then darts; 6 where 5 is not refused, so that each entry of a dart present is a dart.
-fn sought(test: Test, explicit: bool, table: &[u16], n: Dim, darts: u16) -> Place
-    requires { Rows n.0 darts table.now × (test ≡ Test.NotTwice → check5_in explicit n.0 darts table.now ≡ accepted) }
-    ensures { refused_at (number_of test) result ≡ sought_in test explicit n.0 darts table.now }
-{
-    let mut found = Place::Nowhere;
+    let mut found = None;
     'rows: for i in 0..n.0 + 1 {
         for d in 0..darts {
-            if due(test, explicit, table, darts, Dim(i), d) {
-                found = Place::At(Dim(i), d);
+            if due(Dim(i), d) {
+                found = Some(Place {
+                    row: Dim(i),
+                    dart: d,
+                });
                 break 'rows;
             }
         }
@@ -106,44 +84,54 @@ fn sought(test: Test, explicit: bool, table: &[u16], n: Dim, darts: u16) -> Plac
     found
 }
 
-// A number that no entry is above. The loop has no exit, so that the compiler may take many entries at once.
-fn largest(table: &[u16]) -> u16
-    ensures { (k : ℕ) → k < length table.now → get_or table.now k 0 ≤ result }
+// The largest entry, 0 where there is none. No exit, so that the compiler may take many entries at once.
+pub fn largest(table: &[u16]) -> u16
+    ensures largest { result ≡ fold max 0 table.now }
+    ensures above { (k : ℕ) → k < length table.now → get_or table.now k 0 ≤ result }
 {
-    let mut most: u16 = 0;
-    for k in 0..table.len() {
-        let e = table[k];
-        if most < e {
-            most = e;
-        }
-    }
-    most
+    table.iter().fold(0, |most, e| most.max(*e))
 }
 
 // Number 5; the place is sought in a base only if there is one.
-fn first_stray(explicit: bool, table: &[u16], n: Dim, darts: u16) -> Place
-    requires { Rows n.0 darts table.now }
-    ensures { refused_at 5 result ≡ check5_in explicit n.0 darts table.now }
+fn number5(explicit: bool, table: &Table<'_>) -> Result<(), Refusal>
+    requires { HasRows table.now }
+    ensures { verdict_of result ≡ check5_in explicit table.now.n.0 table.now.darts table.now.entries.now }
 {
-    if !explicit {
-        if largest(table) < darts {
-            return Place::Nowhere;
-        }
+    if !explicit && largest(table.entries) < table.darts {
+        return Ok(());
     }
-    sought(Test::Strays, explicit, table, n, darts)
+    match first_due(table.n, table.darts, |i, d| strays(explicit, table, i, d)) {
+        Some(at) => Err(Refusal::Strays(Level(0), at.row, at.dart)),
+        None => Ok(()),
+    }
+}
+
+// Number 6, where 5 is not refused, so that each entry of a dart present is a dart.
+fn number6(explicit: bool, table: &Table<'_>) -> Result<(), Refusal>
+    requires { HasRows table.now × (check5_in explicit table.now.n.0 table.now.darts table.now.entries.now ≡ accepted) }
+    ensures { verdict_of result ≡ check6_in explicit table.now.n.0 table.now.darts table.now.entries.now }
+{
+    match first_due(
+        table.n,
+        table.darts,
+        |i, d| not_twice(explicit, table, i, d),
+    ) {
+        Some(at) => Err(Refusal::NotTwice(at.row, at.dart)),
+        None => Ok(()),
+    }
 }
 
 // Number 7, sought over i, j, darts; pairs with j < i+2 are never refused.
-fn number7(explicit: bool, table: &[u16], n: Dim, darts: u16) -> Place
-    requires { Rows n.0 darts table.now × (check5_in explicit n.0 darts table.now ≡ accepted) }
-    ensures { refused_at 7 result ≡ check7_in explicit n.0 darts table.now }
+fn number7(explicit: bool, table: &Table<'_>) -> Result<(), Refusal>
+    requires { HasRows table.now × (check5_in explicit table.now.n.0 table.now.darts table.now.entries.now ≡ accepted) }
+    ensures { verdict_of result ≡ check7_in explicit table.now.n.0 table.now.darts table.now.entries.now }
 {
-    let mut found = Place::Nowhere;
-    'rows: for i in 0..n.0 + 1 {
-        for j in i + 2..n.0 + 1 {
-            for d in 0..darts {
-                if not_commuting(explicit, table, darts, Dim(i), Dim(j), d) {
-                    found = Place::At(Dim(i), d);
+    let mut found = Ok(());
+    'rows: for i in 0..table.n.0 + 1 {
+        for j in i + 2..table.n.0 + 1 {
+            for d in 0..table.darts {
+                if not_commuting(explicit, table, Dim(i), Dim(j), d) {
+                    found = Err(Refusal::NotCommuting(Dim(i), d));
                     break 'rows;
                 }
             }
@@ -153,16 +141,16 @@ fn number7(explicit: bool, table: &[u16], n: Dim, darts: u16) -> Place
 }
 
 // Is neither 6 nor 7 due at row i of dart d, which is present? A no promises nothing, here and up to `map_valid`: the place is then sought.
-fn row_valid(n: Dim, darts: u16, table: &[u16], i: Dim, d: u16) -> bool
-    requires { Led n.0 darts table.now d × (i.0 ≤ n.0) }
-    ensures { result ≡ true → ValidAt n.0 darts table.now i.0 d }
+fn row_valid(table: &Table<'_>, i: Dim, d: u16) -> bool
+    requires { Led table.now.n.0 table.now.darts table.now.entries.now d × (i.0 ≤ table.now.n.0) }
+    ensures { result ≡ true → ValidAt table.now.n.0 table.now.darts table.now.entries.now i.0 d }
 {
-    let e = answers::at(darts, table, i, d);
-    if answers::at(darts, table, i, e) != d {
+    let e = table.at(i, d);
+    if table.at(i, e) != d {
         return false;
     }
-    for j in i.0 + 2..n.0 + 1 {
-        if !answers::commute(darts, table, i, Dim(j), d) {
+    for j in i.0 + 2..table.n.0 + 1 {
+        if !table.commute(i, Dim(j), d) {
             return false;
         }
     }
@@ -170,26 +158,30 @@ fn row_valid(n: Dim, darts: u16, table: &[u16], i: Dim, d: u16) -> bool
 }
 
 // At no row of dart d?
-fn dart_valid(n: Dim, darts: u16, table: &[u16], d: u16) -> bool
-    requires { Led n.0 darts table.now d }
-    ensures { result ≡ true → (i : ℕ) → i ≤ n.0 → ValidAt n.0 darts table.now i d }
+fn dart_valid(table: &Table<'_>, d: u16) -> bool
+    requires { Led table.now.n.0 table.now.darts table.now.entries.now d }
+    ensures { result ≡ true → (i : ℕ) → i ≤ table.now.n.0 → ValidAt table.now.n.0 table.now.darts table.now.entries.now i d }
 {
-    for i in 0..n.0 + 1 {
-        if !row_valid(n, darts, table, Dim(i), d) {
+    for i in 0..table.n.0 + 1 {
+        if !row_valid(table, Dim(i), d) {
             return false;
         }
     }
     true
 }
 
-// At no dart present? Dart by dart, so that its neighbours are read once for all its tests.
-fn darts_valid(explicit: bool, n: Dim, darts: u16, table: &[u16]) -> bool
-    requires { Rows n.0 darts table.now × AllLed explicit n.0 darts table.now }
-    ensures { result ≡ true → AllValid explicit n.0 darts table.now }
+// At no dart present? Dart by dart, so that its neighbours are read once for all its tests. N is n: a number that the compiler knows, so that it takes all rows of a dart without a loop; so it knows whether darts may be absent.
+fn darts_valid<const EXPLICIT: bool, const N: u8>(table: &Table<'_>) -> bool
+    requires { Rows N table.now.darts table.now.entries.now × AllLed EXPLICIT N table.now.darts table.now.entries.now }
+    ensures { result ≡ true → AllValid EXPLICIT N table.now.darts table.now.entries.now }
 {
-    for d in 0..darts {
-        if there(explicit, table, darts, d) {
-            if !dart_valid(n, darts, table, d) {
+    let known = Table {
+        n: Dim(N),
+        ..*table
+    };
+    for d in 0..known.darts {
+        if there(EXPLICIT, &known, d) {
+            if !dart_valid(&known, d) {
                 return false;
             }
         }
@@ -197,71 +189,50 @@ fn darts_valid(explicit: bool, n: Dim, darts: u16, table: &[u16]) -> bool
     true
 }
 
-// The same of a base, with n as a number that the compiler knows: it then takes all rows of a dart without a loop.
-fn base_valid(n: Dim, darts: u16, table: &[u16]) -> bool
-    requires { Rows n.0 darts table.now × AllLed false n.0 darts table.now × (0 < n.0) }
-    ensures { result ≡ true → AllValid false n.0 darts table.now }
+// The same, with n for N.
+fn all_valid<const EXPLICIT: bool>(table: &Table<'_>) -> bool
+    requires { HasRows table.now × AllLed EXPLICIT table.now.n.0 table.now.darts table.now.entries.now × (0 < table.now.n.0) }
+    ensures { result ≡ true → AllValid EXPLICIT table.now.n.0 table.now.darts table.now.entries.now }
 {
-    if n.0 == 1 {
-        return darts_valid(false, Dim(1), darts, table);
+    match table.n.0 {
+        1 => darts_valid::<EXPLICIT, 1>(table),
+        2 => darts_valid::<EXPLICIT, 2>(table),
+        3 => darts_valid::<EXPLICIT, 3>(table),
+        _ => darts_valid::<EXPLICIT, 4>(table),
     }
-    if n.0 == 2 {
-        return darts_valid(false, Dim(2), darts, table);
-    }
-    if n.0 == 3 {
-        return darts_valid(false, Dim(3), darts, table);
-    }
-    darts_valid(false, Dim(4), darts, table)
-}
-
-// The same of an explicit level. Apart, so that the compiler knows too whether darts may be absent.
-fn level_valid(n: Dim, darts: u16, table: &[u16]) -> bool
-    requires { Rows n.0 darts table.now × AllLed true n.0 darts table.now × (0 < n.0) }
-    ensures { result ≡ true → AllValid true n.0 darts table.now }
-{
-    if n.0 == 1 {
-        return darts_valid(true, Dim(1), darts, table);
-    }
-    if n.0 == 2 {
-        return darts_valid(true, Dim(2), darts, table);
-    }
-    if n.0 == 3 {
-        return darts_valid(true, Dim(3), darts, table);
-    }
-    darts_valid(true, Dim(4), darts, table)
 }
 
 // Is the entry of dart d in row i a dart where d is present, and 65,535 where it is absent?
-fn entry_kept(darts: u16, table: &[u16], i: Dim, d: u16) -> bool
-    requires { Row darts table.now 0 × Row darts table.now i.0 × (d < darts) }
-    ensures { result ≡ true → Kept darts table.now i.0 d }
+fn entry_kept(table: &Table<'_>, i: Dim, d: u16) -> bool
+    requires { HasRow table.now 0 × HasRow table.now i.0 × (d < table.now.darts) }
+    ensures { result ≡ true → Kept table.now.darts table.now.entries.now i.0 d }
 {
-    let e = answers::at(darts, table, i, d);
-    if answers::there(darts, table, d) {
-        return e < darts;
+    let e = table.at(i, d);
+    if table.there(d) {
+        return e < table.darts;
     }
     e == ABSENT
 }
 
 // Each entry of row i? The loop has no exit and no branch, so that the compiler may take many entries at once.
-fn row_kept(darts: u16, table: &[u16], i: Dim) -> bool
-    requires { Row darts table.now 0 × Row darts table.now i.0 }
-    ensures { result ≡ true → (d : ℕ) → d < darts → Kept darts table.now i.0 d }
+fn row_kept(table: &Table<'_>, i: Dim) -> bool
+    requires { HasRow table.now 0 × HasRow table.now i.0 }
+    ensures { result ≡ true → (d : ℕ) → d < table.now.darts → Kept table.now.darts table.now.entries.now i.0 d }
 {
     let mut kept = true;
-    for d in 0..darts {
-        kept = kept & entry_kept(darts, table, i, d);
+    for d in 0..table.darts {
+        kept = kept & entry_kept(table, i, d);
     }
     kept
 }
 
 // Each entry?
-fn rows_kept(n: Dim, darts: u16, table: &[u16]) -> bool
-    requires { Rows n.0 darts table.now }
-    ensures { result ≡ true → AllKept n.0 darts table.now }
+fn rows_kept(table: &Table<'_>) -> bool
+    requires { HasRows table.now }
+    ensures { result ≡ true → AllKept table.now.n.0 table.now.darts table.now.entries.now }
 {
-    for i in 0..n.0 + 1 {
-        if !row_kept(darts, table, Dim(i)) {
+    for i in 0..table.n.0 + 1 {
+        if !row_kept(table, Dim(i)) {
             return false;
         }
     }
@@ -269,67 +240,63 @@ fn rows_kept(n: Dim, darts: u16, table: &[u16]) -> bool
 }
 
 // Is none of 5, 6 and 7 due? Where 6 is not, an entry kept leads to a dart present, since that dart leads back.
-fn map_valid(explicit: bool, n: Dim, darts: u16, table: &[u16]) -> bool
-    requires { Rows n.0 darts table.now × (0 < n.0) }
-    ensures { result ≡ true → check_map_in explicit n.0 darts table.now ≡ accepted }
+fn map_valid(explicit: bool, table: &Table<'_>) -> bool
+    requires { HasRows table.now × (0 < table.now.n.0) }
+    ensures { result ≡ true → check_map_in explicit table.now.n.0 table.now.darts table.now.entries.now ≡ accepted }
 {
-    if largest(table) < darts {
-        return base_valid(n, darts, table);
+    if largest(table.entries) < table.darts {
+        return all_valid::<false>(table);
     }
-    if explicit {
-        if rows_kept(n, darts, table) {
-            return level_valid(n, darts, table);
-        }
-    }
-    false
+    explicit && rows_kept(table) && all_valid::<true>(table)
 }
 
 // Numbers 5, 6 and 7, in this order, of a table of the exact length; the place is sought only if there is one.
-fn map_refused(explicit: bool, table: &[u16], n: Dim, darts: u16) -> Check
-    requires { Rows n.0 darts table.now × (0 < n.0) }
-    ensures { verdict_of result ≡ check_map_in explicit n.0 darts table.now }
+fn map_refused(explicit: bool, table: &Table<'_>) -> Result<(), Refusal>
+    requires { HasRows table.now × (0 < table.now.n.0) }
+    ensures { verdict_of result ≡ check_map_in explicit table.now.n.0 table.now.darts table.now.entries.now }
 {
-    if map_valid(explicit, n, darts, table) {
-        return Check::Accepted;
+    if map_valid(explicit, table) {
+        return Ok(());
     }
-    if let Place::At(i, d) = first_stray(explicit, table, n, darts) {
-        return Check::Refused(Refusal::Strays(Level(0), i, d));
-    }
-    if let Place::At(i, d) = sought(Test::NotTwice, explicit, table, n, darts) {
-        return Check::Refused(Refusal::NotTwice(i, d));
-    }
-    if let Place::At(i, d) = number7(explicit, table, n, darts) {
-        return Check::Refused(Refusal::NotCommuting(i, d));
-    }
-    Check::Accepted
+    number5(explicit, table)?;
+    number6(explicit, table)?;
+    number7(explicit, table)
 }
 
 // Numbers 1, 2, 4, 5, 6 and 7.
-fn check_table(explicit: bool, table: &[u16], n: Dim, darts: u16) -> Check
-    ensures { verdict_of result ≡ check_in explicit n.0 darts table.now }
+fn check_table(explicit: bool, table: &Table<'_>) -> Result<(), Refusal>
+    ensures { verdict_of result ≡ check_in explicit table.now.n.0 table.now.darts table.now.entries.now }
 {
-    let fit = answers::rows_fit(n, darts, table.len());
+    let fit = answers::rows_fit(table.n, table.darts, table.entries.len());
     let sizes = Sizes {
-        n,
+        n: table.n,
         h: Level(0),
-        darts,
+        darts: table.darts,
     };
-    if let Check::Refused(r) = answers::lent(sizes, fit) {
-        return Check::Refused(r);
-    }
-    map_refused(explicit, table, n, darts)
+    answers::lent(sizes, fit)?;
+    map_refused(explicit, table)
 }
 
 // Check a base.
-pub fn check_base(n: Dim, darts: u16, rows: &[u16]) -> Check
+pub fn check_base(n: Dim, darts: u16, rows: &[u16]) -> Result<(), Refusal>
     ensures { verdict_of result ≡ check_base n.0 darts rows.now }
 {
-    check_table(false, rows, n, darts)
+    let table = Table {
+        n,
+        darts,
+        entries: rows,
+    };
+    check_table(false, &table)
 }
 
-// Check an explicit level.
-pub fn check_explicit(n: Dim, darts: u16, table: &[u16]) -> Check
+// Check an explicit level. Public jobs are lent n, darts and entries apart, as C lends them.
+pub fn check_explicit(n: Dim, darts: u16, table: &[u16]) -> Result<(), Refusal>
     ensures { verdict_of result ≡ check_explicit n.0 darts table.now }
 {
-    check_table(true, table, n, darts)
+    let table = Table {
+        n,
+        darts,
+        entries: table,
+    };
+    check_table(true, &table)
 }

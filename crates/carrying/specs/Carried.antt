@@ -1,12 +1,12 @@
 -- A number for each link, carried along where a kernel is taken out. Assumes nothing: these are definitions.
-use Rattle.std.specs.Prelude.{◌≡◌, Bool, true, cond, ◌&&◌, not, List, ℕ, suc, ◌≤◌, ◌<◌, length, ltb}
-use Rattle.maps.specs.Mark.{is_mark}
+use Rattle.std.specs.Prelude.{◌≡◌, Bool, true, false, cond, ◌&&◌, not, List, ℕ, suc, ◌≤◌, ◌<◌, length, ltb}
+use Rattle.maps.specs.Mark.{is_mark, between}
 use Rattle.maps.specs.Removal.{marked}
 use Rattle.maps.specs.Table.{entry}
 use Rattle.maps.specs.UnfoldAll.{counts_of, counts_from}
 use Rattle.kernels.specs.declared.Kernel.{Kernel}
-use Rattle.kernels.specs.Strings.{Marks, Strung}
-use Rattle.kernels.specs.Ready.{map_of, row_of, TableIs, Followed, Ready}
+use Rattle.kernels.specs.Strings.{Marks}
+use Rattle.kernels.specs.Ready.{map_of, row_of, TableIs, Followed, ReadyOn, StrungIn}
 
 -- does row t lead from dart k, which stays, to a dart that the kernel marks with that row?
 unfoldable pub leads : ℕ → ℕ → (ℕ → ℕ) → List ℕ → ℕ → ℕ → Bool
@@ -25,23 +25,39 @@ abbrev pub Fits : ℕ → ℕ → (ℕ → ℕ) → List ℕ → List ℕ → Ty
 Fits n N mark block reads = (t k : ℕ) → t ≤ n → k < N → leads n N mark block t k ≡ true → counted n N mark block reads t k < 65536
 
 -- the counts of the links by which the removal of a kernel goes on from a dart of it, by a row
-abbrev pub counts_on : Kernel → List ℕ → List ℕ → List ℕ → List ℕ → ℕ → ℕ → ℕ
-counts_on k lambda delta block reads t d = counts_from (map_of k block) k.n.0 (row_of k lambda delta) (map_of k reads) k.darts t d
+abbrev pub counts_on : Kernel → List ℕ → List ℕ → ℕ → ℕ → ℕ
+counts_on k block reads t d = counts_from (map_of k block) k.n.0 (row_of k) (map_of k reads) k.darts t d
 
 -- what following the marks of a kernel and summing along them asks of the block and the table of counts
-abbrev pub CanFollow : Kernel → List ℕ → List ℕ → List ℕ → List ℕ → Type 0
-CanFollow k lambda delta block reads =
-    Marks k.n.0 k.darts k.level.0 lambda delta × Followed k.n.0 k.darts (row_of k lambda delta) block × (length reads ≡ length block)
+abbrev pub CanFollow : Kernel → List ℕ → List ℕ → Type 0
+CanFollow k block reads =
+    Marks k.n.0 k.darts k.level.0 k.lambda.now k.delta.now × Followed k.n.0 k.darts (row_of k) block × (length reads ≡ length block)
 
 -- the kernel can be taken out of the block, and its darts are strung
-abbrev pub CanTake : Kernel → List ℕ → List ℕ → List ℕ → List ℕ → Type 0
-CanTake k lambda delta next block = Ready k.n.0 k.darts (row_of k lambda delta) block × Strung k.n.0 k.darts k.level.0 k.first lambda delta next
+abbrev pub CanTake : Kernel → List ℕ → Type 0
+CanTake k block = ReadyOn k block × StrungIn k
+
+-- where dart d of the kernel leads by the first row of its mark
+abbrev pub led_from : Kernel → List ℕ → ℕ → ℕ
+led_from k block d = map_of k block (between (row_of k d)).0 d
+
+-- that dart is of the kernel
+abbrev pub Within : Kernel → List ℕ → ℕ → Type 0
+Within k block d = is_mark k.n.0 (row_of k (led_from k block d)) ≡ true
+
+-- it is dart b, which stays, and i is that row
+pub record Enters (k : Kernel) (block : List ℕ) (d i b : ℕ) : Type 0 where
+  pub row : i ≡ (between (row_of k d)).0
+  pub low : i ≤ k.n.0
+  pub dart : b ≡ led_from k block d
+  pub inside : b < k.darts
+  pub stays : is_mark k.n.0 (row_of k b) ≡ false
 
 -- the counts that are carried along a kernel of a block
-abbrev pub CountsLed : Kernel → List ℕ → List ℕ → List ℕ → List ℕ → List ℕ → Type 0
-CountsLed k lambda delta block before after =
-    Led k.n.0 k.darts (row_of k lambda delta) block (counted k.n.0 k.darts (row_of k lambda delta) block before) before after
+abbrev pub CountsLed : Kernel → List ℕ → List ℕ → List ℕ → Type 0
+CountsLed k block before after =
+    Led k.n.0 k.darts (row_of k) block (counted k.n.0 k.darts (row_of k) block before) before after
 
 -- and the levels since which
-abbrev pub SinceLed : Kernel → List ℕ → List ℕ → List ℕ → List ℕ → List ℕ → Type 0
-SinceLed k lambda delta block before after = Led k.n.0 k.darts (row_of k lambda delta) block (λ _ _. suc k.level.0) before after
+abbrev pub SinceLed : Kernel → List ℕ → List ℕ → List ℕ → Type 0
+SinceLed k block before after = Led k.n.0 k.darts (row_of k) block (λ _ _. suc k.level.0) before after

@@ -1,6 +1,6 @@
 -- Laws of the tests that marking begins with: which refusal is given, and what an accepted level tells. Assumes nothing.
 use mathlib.Core.Path.{◌≡◌, refl, sym, ◌∙◌}
-use mathlib.Core.Bool.{Bool, ◌&&◌, not}
+use mathlib.Core.Bool.{◌&&◌, not}
 use mathlib.Core.List.{List}
 use Prim.Native.Nat.{ℕ, suc, ◌*◌, ◌≤◌, ◌<◌}
 use lib.ListN.{length}
@@ -20,10 +20,6 @@ use Rattle.answers.specs.Numbers.{refusal_of}
 use Rattle.answers.specs.declared.Refusal.{Refusal}
 use Rattle.answers.proofs.Refusals.{refusal_refuses}
 use Rattle.orbits.specs.Explicit.{ExplicitLevel}
-
--- both tests, where each is known
-pub both_known : {both x y p q : Bool} → both ≡ (x && y) → x ≡ p → y ≡ q → both ≡ (p && q)
-both_known e f g = e ∙ rw (f, g)
 
 module _ (n N : ℕ) (table : List ℕ) (δ : ℕ) (out : List ℕ) where
   -- 1 2 3 4, then 13 and the map

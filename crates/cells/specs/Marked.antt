@@ -8,7 +8,13 @@ use Rattle.maps.specs.Table.{entry}
 use Rattle.maps.specs.Explicit.{present}
 use Rattle.orbits.specs.Search.{has, Room}
 use Rattle.orbits.specs.Orbits.{Closed}
-use Rattle.orbits.specs.Explicit.{but}
+use Rattle.orbits.specs.Explicit.{but, ExplicitLevel}
+use Rattle.cells.specs.declared.mark.Marking.{Marking}
+
+-- an explicit level that is accepted, and a dimension below n
+pub record Markable (marking : Marking) : Type 0 where
+  pub level : ExplicitLevel marking.table.n.0 marking.table.darts marking.table.entries.now
+  pub low : marking.dimension.0 < marking.table.n.0
 
 module _ (n N : ℕ) (table : List ℕ) (δ : ℕ) where
   -- Does the dart's own test fail? For δ = n−1 never; for δ ≤ n−2, it ends elsewhere by a_(δ+1) then a_(δ+2) than by a_(δ+2) then a_(δ+1).
@@ -41,6 +47,11 @@ module _ (n N : ℕ) (table : List ℕ) where
 
   abbrev pub Spared : ℕ → List Bool → List ℕ → Type 0
   Spared δ = Without δ (Marked (entry N table) n δ)
+
+-- the second set has the connected pieces of the darts present in the first, and nothing else
+abbrev pub Broken : Marking → (ℕ → Bool) → (ℕ → Bool) → Type 0
+Broken marking within pieces =
+    Gathered marking.table.n.0 marking.table.darts marking.table.entries.now (λ j. true) (λ d. present marking.table.darts marking.table.entries.now d && within d) pieces marking.table.darts
 
 -- Is it still to be found out whether the cell of dart d has two parts? It is not in the set, and no part has been searched that d or its a_(δ+1)-neighbour lies in.
 abbrev pub undivided : ℕ → List ℕ → ℕ → (ℕ → Bool) → (ℕ → Bool) → ℕ → Bool

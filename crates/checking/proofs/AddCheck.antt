@@ -1,20 +1,29 @@
 -- The verdict of an add and what it leaves, taken apart as the code tests it. Assumes nothing.
-use mathlib.Core.Path.{◌≡◌, refl}
-use mathlib.Core.Bool.{Bool, true, cond, ◌&&◌}
+use mathlib.Core.Path.{◌≡◌, refl, sym, ap, ◌∙◌}
+use mathlib.Core.Bool.{Bool, true, false, cond, ◌&&◌, ◌||◌, not}
 use mathlib.Core.List.{List}
-use Prim.Native.Nat.{ℕ, suc, ◌+◌, ◌*◌, ◌<◌}
+use Prim.Native.Nat.{ℕ, zero, suc, ◌+◌, ◌*◌, ◌≤◌, ◌<◌}
 use native.Mathlib.Numerals.{add-one}
-use lib.ListN.{length}
+use native.Mathlib.Omega.{arith}
+use lib.ListN.{length, get_or, take}
+use lib.Seq.{take_all}
+use Rattle.std.proofs.lemmas.List.Sums.{fold_more}
+use Rattle.answers.proofs.Bools.{neither}
+use Rattle.std.specs.Prelude.{Some, None, position}
+use Rattle.std.specs.List.{zip, fold}
+use Rattle.std.proofs.lemmas.Slice.Zip.{length-zip, get_or-zip}
+use Rattle.std.proofs.lemmas.List.Quantifiers.{position-Some}
+use Rattle.answers.proofs.Firsts.{scan_found, scan_none}
 use lib.Dec.{eqb}
-use borrow.Author.Tests.{eqb-true, not-false}
-use Rattle.maps.specs.Verdict.{Verdict, accepted, ◌then◌}
+use borrow.Author.Tests.{eqb-true, eqb-false, not-false}
+use Rattle.maps.specs.Verdict.{Verdict, accepted, refused, ◌then◌, scan}
 use Rattle.maps.specs.Sizes.{has_length}
 use Rattle.maps.specs.Mark.{is_mark, stay}
 use Rattle.maps.specs.Table.{entry, each, listed}
 use Rattle.maps.specs.Folded.{addΛ, addΔ, level_table, Folded}
 use Rattle.maps.specs.MarkRow.{Row}
 use Rattle.maps.specs.AddLevel.{refused_mark, at_row8, number20, add_lent, add_height, add_lambda, add_delta, add_leaves}
-use Rattle.laws.proofs.Verdicts.{then_accepted, when_accepted, scan_accepted, then_two}
+use Rattle.laws.proofs.Verdicts.{then_accepted, when_accepted, scan_accepted, scan_all, then_two}
 use Rattle.laws.proofs.Sizes.{both_equal}
 use Rattle.answers.specs.Numbers.{refusal_of}
 use Rattle.answers.specs.Lent.{lent_of}
@@ -119,3 +128,56 @@ module _ (P : Folded) (row table : List ℕ) where
       pub grown : accepted ≡ K → {lambda' delta' : List ℕ} → lambda' ≡ listed (addΛ n h (each lambda) (each row)) N → delta' ≡ listed (addΔ n (each delta) (each row)) N → Leaves accepted (h + 1) lambda' delta' after
       unfolding add_height add_lambda add_delta
       grown e l d = let a = at_end e in (a.0, (rw (← a.0) (add-one h), (rw (← a.0) l, (rw (← a.0) d, a.1))))
+
+-- a fold that finds none: no element passes
+module _ {X : Type 0} (f : X → Bool) (xs : List X) (d : X) where
+  none_to : (m : ℕ) → m ≤ length xs → fold (λ any x. any || f x) false (take m xs) ≡ false → (k : ℕ) → k < m → f (get_or xs k d) ≡ false
+  none_to zero lm none k l = absurd (omega arith)
+  none_to (suc m) lm none k l = go (eqb k m) refl (none_to m (omega arith) both.0 k)
+    where
+      both : (fold (λ any x. any || f x) false (take m xs) ≡ false) × (f (get_or xs m d) ≡ false)
+      both = neither _ _ (sym (ap (λ (i : ℕ). fold (λ any x. any || f x) false (take i xs)) (sym (add-one m)) ∙ fold_more (λ any x. any || f x) false xs m d (omega arith)) ∙ none)
+
+      go : (t : Bool) → eqb k m ≡ t → (k < m → f (get_or xs k d) ≡ false) → f (get_or xs k d) ≡ false
+      go true q before = ap (λ (i : ℕ). f (get_or xs i d)) (eqb-true k m q) ∙ both.1
+      go false q before = let ne = eqb-false k m q in before (omega arith)
+
+  none_found : fold (λ any x. any || f x) false xs ≡ false → (k : ℕ) → k < length xs → f (get_or xs k d) ≡ false
+  none_found none = none_to (length xs) (omega arith) (ap (fold (λ any x. any || f x) false) (take_all (length xs) xs (omega arith)) ∙ none)
+
+-- the pairs of Λ and mark row, and those that are refused
+module _ (n N h : ℕ) (lambda row : List ℕ) (long : length lambda ≡ N) (row_long : length row ≡ N) where
+  abbrev pairs : List (ℕ × ℕ)
+  pairs = zip lambda row
+
+  abbrev refused_pair : ℕ × ℕ → Bool
+  refused_pair p = not (cond (is_mark n p.1) (eqb p.0 h) (eqb p.1 stay))
+
+  abbrev at_pair : ℕ → Verdict
+  at_pair = at_row8 n h (each lambda) (each row)
+
+  pairs_long : length pairs ≡ N
+  pairs_long = length-zip lambda row ∙ omega (arith, long, row_long)
+
+  pair_at : (x : ℕ) → x < length pairs → get_or pairs x (0, 0) ≡ (each lambda x, each row x)
+  pair_at x l = get_or-zip lambda row x (0, 0) (omega (arith, pairs_long, long)) (omega (arith, pairs_long, row_long))
+
+  fine : (x : ℕ) → x < length pairs → refused_pair (get_or pairs x (0, 0)) ≡ false → at_pair x ≡ accepted
+  unfolding at_row8
+  fine x l q = rw (sym (ap refused_pair (pair_at x l)) ∙ q)
+
+  due : (x : ℕ) → x < length pairs → refused_pair (get_or pairs x (0, 0)) ≡ true → at_pair x ≡ refused 8 h 0 x
+  unfolding at_row8
+  due x l q = rw (sym (ap refused_pair (pair_at x l)) ∙ q)
+
+  -- the first pair that is refused is the dart reported
+  pub pair_found : (d : ℕ) → position refused_pair pairs ≡ Some d → (d < N) × (refused 8 h 0 d ≡ row_marks n N h lambda row)
+  pair_found d found =
+      let l = (position-Some refused_pair pairs d (0, 0) found).0 in
+      (omega (arith, l, pairs_long), sym (ap (λ (m : ℕ). scan m at_pair) (sym pairs_long) ∙ scan_found refused_pair pairs (0, 0) at_pair fine d 8 h 0 d found (due d l)))
+
+  pub none_refused : fold (λ any p. any || refused_pair p) false pairs ≡ false → accepted ≡ row_marks n N h lambda row
+  none_refused none = sym (scan_all N at_pair (λ x l. fine x (omega (arith, pairs_long, l)) (none_found refused_pair pairs (0, 0) none x (omega (arith, pairs_long, l)))))
+
+  pub pair_none : position refused_pair pairs ≡ None → accepted ≡ row_marks n N h lambda row
+  pair_none none = sym (ap (λ (m : ℕ). scan m at_pair) (sym pairs_long) ∙ scan_none refused_pair pairs (0, 0) at_pair fine none)

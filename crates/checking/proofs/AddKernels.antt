@@ -1,10 +1,10 @@
 -- The pyramid with the mark row folded in: its kernels below h are those of Λ and Δ, and kernel h is the mark row. Assumes nothing.
 use mathlib.Core.Path.{◌≡◌, refl, sym, ap, ◌∙◌, fun_ext}
 use mathlib.Core.Bool.{Bool, true, false}
-use mathlib.Core.List.{List}
+use mathlib.Core.List.{List, ◌++◌}
 use Prim.Native.Nat.{ℕ, zero, suc, ◌≤◌, ◌<◌}
 use native.Mathlib.Omega.{arith}
-use lib.ListN.{length, get_or-eq_default}
+use lib.ListN.{length, take, drop, get_or-eq_default}
 use lib.Dec.{eqb, ltb}
 use borrow.Author.Tests.{eqb-true, ltb-true, ltb-false, lt-ltb, le-ltb}
 use Rattle.maps.specs.Verdict.{Verdict, accepted, refused, ◌then◌, scan}
@@ -20,9 +20,14 @@ use Rattle.laws.proofs.Verdicts.{then_accepted, scan_same}
 use Rattle.laws.proofs.Tables.{get_or_listed, length_listed, explicit_same}
 use Rattle.facts.proofs.Adding.{marks_kept, marks_new, allowed_added}
 use Rattle.facts.proofs.Climbing.{row_check, next_table, top_table}
+use Rattle.climbing.proofs.Rows.{blank, part_is}
 use Rattle.climbing.specs.Climb.{Base, climbs, climb_leaves}
 use Rattle.checking.specs.Added.{new_top, ascends, ascend_leaves}
 use Rattle.climbing.proofs.Verdicts.{Says, Late, passed, says, says_then, says_more, kernel_late, kernels_late}
+
+-- the front of a local row, once it was written
+pub folded_part : {N m : ℕ} (f : ℕ → ℕ) {list : List ℕ} → list ≡ listed f m → m ≡ N → take N (list ++ drop N blank) ≡ listed f N
+folded_part {N} f {list} e long = let is = e ∙ ap (listed f) long in part_is N list (ap length is ∙ length_listed f N) ∙ is
 
 -- the second verdict matters only where the first is accepted
 then_same : (v w u : Verdict) → (v ≡ accepted → w ≡ u) → (v then w) ≡ (v then u)

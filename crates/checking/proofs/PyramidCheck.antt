@@ -20,7 +20,7 @@ use Rattle.answers.specs.Numbers.{refusal_of}
 use Rattle.answers.specs.Lent.{lent_of}
 use Rattle.answers.specs.declared.Refusal.{Refusal}
 use Rattle.climbing.specs.Climb.{Base, climbs, climb_leaves}
-use Rattle.checking.specs.Checked.{lent_sizes, base_sizes, base_and_marks, early_of}
+use Rattle.checking.specs.Checked.{sizes_with, lent_sizes, base_sizes, base_and_marks, early_of}
 use Rattle.climbing.proofs.Verdicts.{Says, Late, passed, says_then, kernels_late}
 use Rattle.checking.proofs.Parts.{Early, lengths_early, map_early, marks_early, at_sizes, at_kernels}
 
@@ -69,8 +69,21 @@ module _ (P : Folded) (table : List ℕ) where
         w.1,
       )
 
+module _ (P : Folded) where
+  open P use {n, N, h, rows, lambda, delta}
+
+  -- and of what else is lent, whatever it is
+  pub with_facts : (others : Bool) → sizes_with P others ≡ accepted → Lent P rows
+  with_facts others e =
+      let more = has_length lambda N && (has_length delta N && others) in
+      let x = both_equal (length rows) (suc n * N) more (lent_sized n N h (has_length rows (suc n * N) && more) e).1 in
+      (lent_facts P rows others e (λ q. x.0)).0
+
+module _ (P : Folded) (table : List ℕ) where
+  open P use {n, N, h, rows, lambda, delta}
+
   pub check_facts : lent_sizes P table ≡ accepted → Lent P table
-  check_facts e = (lent_facts (has_length table (suc n * N)) e (eqb-true (length table) (suc n * N))).0
+  check_facts e = (lent_facts P table (has_length table (suc n * N)) e (eqb-true (length table) (suc n * N))).0
 
   -- base and marks are refused with 5 to 8
   pub marks_early_all : Says Early (base_and_marks P)

@@ -1,14 +1,18 @@
 -- The parts of a check's verdict. Assumes nothing: these are definitions.
-use Rattle.std.specs.Prelude.{true, ◌&&◌, List, ℕ, suc, ◌*◌}
+use Rattle.std.specs.Prelude.{Bool, true, ◌&&◌, List, ℕ, suc, ◌*◌}
 use Rattle.maps.specs.Verdict.{Verdict, ◌then◌}
 use Rattle.maps.specs.Sizes.{has_length}
 use Rattle.maps.specs.Folded.{Folded, base, lambda_of, delta_of}
 use Rattle.maps.specs.Check.{check_map, check8}
 use Rattle.answers.specs.Lent.{lent_of}
 
--- 1 to 4 of base rows, marks and a table
+-- 1 to 4 of base rows and marks, and of what else is lent
+abbrev pub sizes_with : Folded → Bool → Verdict
+sizes_with f others = lent_of f.n f.N f.h (has_length f.rows (suc f.n * f.N) && (has_length f.lambda f.N && (has_length f.delta f.N && others)))
+
+-- of base rows, marks and a table
 abbrev pub lent_sizes : Folded → List ℕ → Verdict
-lent_sizes f table = lent_of f.n f.N f.h (has_length f.rows (suc f.n * f.N) && (has_length f.lambda f.N && (has_length f.delta f.N && has_length table (suc f.n * f.N))))
+lent_sizes f table = sizes_with f (has_length table (suc f.n * f.N))
 
 -- 1, 2 and 4 of base rows
 abbrev pub base_sizes : ℕ → ℕ → List ℕ → Verdict
@@ -19,5 +23,9 @@ abbrev pub base_and_marks : Folded → Verdict
 base_and_marks f = check_map (base f) f.n f.N (λ d. true) then check8 f.n f.N f.h (lambda_of f) (delta_of f)
 
 -- 1 to 8
+abbrev pub early_with : Folded → Bool → Verdict
+early_with f others = sizes_with f others then base_and_marks f
+
+-- where a table is lent
 abbrev pub early_of : Folded → List ℕ → Verdict
 early_of f table = lent_sizes f table then base_and_marks f

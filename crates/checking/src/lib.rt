@@ -3,4 +3,4 @@
 
 mod pyramid; // pyramid.rt: a whole pyramid, and a level added
 
-pub use pyramid::{Height, add, check, early};
+pub use pyramid::{add, check, early, early_with};

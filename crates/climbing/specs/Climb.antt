@@ -2,12 +2,12 @@
 use Rattle.std.specs.Prelude.{◌≡◌, false, List, ℕ, suc, ◌*◌, ◌<◌, ◌≤◌, length}
 use Rattle.maps.specs.Verdict.{Verdict, accepted, scan}
 use Rattle.maps.specs.Map.{Valid}
+use Rattle.answers.specs.Pyramid.{pyramid}
+use Rattle.answers.specs.declared.Pyramid.{Pyramid}
 use Rattle.maps.specs.Folded.{refused_marks, Folded, base, lambda_of, delta_of}
 use Rattle.maps.specs.Check.{kernel_at, check_kernels}
 use Rattle.maps.specs.CheckPyramid.{left_behind, table_at}
-use Rattle.answers.specs.Pyramid.{pyramid}
 use Rattle.kernels.specs.Strings.{Linked}
-use Rattle.climbing.specs.declared.Stretch.{Stretch}
 
 -- base and marks as they are once 1 to 8 have passed, of a pyramid or of one with a level more
 pub record Base (f : Folded) : Type 0 where
@@ -46,22 +46,18 @@ pub record Climbed (f : Folded) (l : ℕ) (head next table : List ℕ) : Type 0 
   pub holds : table ≡ table_at f l
   pub strung : Linked f.N (lambda_of f) 0 head next
 
--- a climb that goes on reads no base: what is said of it holds of whichever base the table was climbed from
-module _ (s : Stretch) (lambda delta head next table : List ℕ) where
-  abbrev pub over : List ℕ → Folded
-  over rows = pyramid s.sizes rows lambda delta
+-- the pyramid lent, over any base rows
+abbrev pub over : Pyramid → List ℕ → Folded
+over p rows = pyramid p.sizes rows p.lambda.now p.delta.now
 
-  abbrev pub From : List ℕ → Type 0
-  From rows = Climbed (over rows) s.from.0 head next table
+-- the table holds a level that was climbed to from some base
+abbrev pub GoesOn : Pyramid → ℕ → List ℕ → List ℕ → List ℕ → Type 0
+GoesOn p from head next table = (rows : List ℕ) × Climbed (over p rows) from head next table
 
-  -- what it asks: there is such a base, and the stretch rises and ends in the pyramid
-  abbrev pub GoesOn : Type 0
-  GoesOn = (s.from.0 ≤ s.to.0) × (s.to.0 ≤ s.sizes.h.0) × ((rows : List ℕ) × From rows)
+-- 9 and 10 of the kernels below a level, from whichever base the climb came
+abbrev pub Reaches : Pyramid → ℕ → List ℕ → List ℕ → List ℕ → ℕ → Verdict → Type 0
+Reaches p from head next table to v = (rows : List ℕ) → Climbed (over p rows) from head next table → v ≡ climbs_to (over p rows) to
 
-  -- what it answers: the verdict of all kernels below its end
-  abbrev pub Reaches : Verdict → Type 0
-  Reaches v = (rows : List ℕ) → From rows → v ≡ climbs_to (over rows) s.to.0
-
-  -- and what it leaves
-  abbrev pub Leaves : List ℕ → Type 0
-  Leaves after = (rows : List ℕ) → From rows → after ≡ climb_to_leaves (over rows) s.to.0
+-- and what they leave in the table
+abbrev pub Leaves : Pyramid → ℕ → List ℕ → List ℕ → List ℕ → ℕ → List ℕ → Type 0
+Leaves p from head next table to after = (rows : List ℕ) → Climbed (over p rows) from head next table → after ≡ climb_to_leaves (over p rows) to

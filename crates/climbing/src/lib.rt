@@ -4,102 +4,70 @@
 ghost use Rattle.std.specs.Prelude.{◌≡◌, ◌≤◌, length};
 ghost use Rattle.maps.specs.Table.{each};
 ghost use Rattle.answers.specs.Numbers.{verdict_of};
-ghost use Rattle.answers.specs.Pyramid.{lent};
+ghost use Rattle.answers.specs.Pyramid.{folded};
 ghost use Rattle.kernels.specs.Strings.{Unstrung, Linked};
 ghost use Rattle.climbing.specs.Climb.{Base, climbs, climb_leaves, climbs_to, climb_to_leaves, GoesOn, Reaches, Leaves};
 
-use answers::{ABSENT, AtLevel, Check, Level, ROOM, Sizes};
-use kernels::{HEADS, Kernel};
+use answers::{ABSENT, Level, Pyramid, ROOM, Refusal};
+use kernels::{HEADS, Kernel, Strings};
 
-// The kernels of a pyramid from one level to below another.
-#[derive(Clone, Copy)]
-pub struct Stretch {
-    pub sizes: Sizes,
-    pub from: Level,
-    pub to: Level,
-}
-
-// The base, copied into the lent table.
-fn copy(rows: &[u16], table: &mut [u16])
-    requires { length table.old ≡ length rows.now }
-    ensures { table.new ≡ rows.now }
+// A climb begins: the table holds the base, and the darts are strung by kernel.
+pub fn begin(pyramid: &Pyramid<'_>, strings: &mut Strings, table: &mut [u16])
+    requires { (length pyramid.now.lambda.now ≤ 4096) × Unstrung strings.old.head strings.old.next × (length table.old ≡ length pyramid.now.rows.now) }
+    ensures strung { Linked (length pyramid.now.lambda.now) (each pyramid.now.lambda.now) 0 strings.new.head strings.new.next }
+    ensures table_left { table.new ≡ pyramid.now.rows.now }
 {
-    for k in 0..rows.len() {
-        table[k] = rows[k];
-    }
+    answers::copy(pyramid.rows, table);
+    strings.string(pyramid.lambda);
 }
 
-// A climb begins: the darts are strung by kernel, and the table holds the base. Heads hold no dart at entry.
-pub fn begin(
-    rows: &[u16],
-    lambda: &[u8],
-    head: &mut [u16; HEADS],
-    next: &mut [u16; ROOM],
-    table: &mut [u16],
-)
-    requires { (length lambda.now ≤ 4096) × Unstrung head.old next.old × (length table.old ≡ length rows.now) }
-    ensures strung { Linked (length lambda.now) (each lambda.now) 0 head.new next.new }
-    ensures table_left { table.new ≡ rows.now }
-{
-    kernels::link(lambda, head, next);
-    copy(rows, table);
-}
-
-// It goes on: the kernels of the stretch, in rising order, on the table that holds its first level.
+// It goes on: the kernels from one level to below another, in rising order, on the table that holds the first.
 pub fn go_on(
-    stretch: Stretch,
-    lambda: &[u8],
-    delta: &[u8],
-    head: &[u16; HEADS],
-    next: &[u16; ROOM],
+    pyramid: &Pyramid<'_>,
+    strings: &Strings,
+    from: Level,
+    to: Level,
     table: &mut [u16],
-) -> Check
-    requires { GoesOn stretch lambda.now delta.now head.now next.now table.old }
-    ensures verdict { Reaches stretch lambda.now delta.now head.now next.now table.old (verdict_of result) }
-    ensures table_left { Leaves stretch lambda.now delta.now head.now next.now table.old table.new }
+) -> Result<(), Refusal>
+    requires { (from.0 ≤ to.0) × (to.0 ≤ pyramid.now.sizes.h.0) × GoesOn pyramid.now from.0 strings.now.head strings.now.next table.old }
+    ensures verdict { Reaches pyramid.now from.0 strings.now.head strings.now.next table.old to.0 (verdict_of result) }
+    ensures table_left { Leaves pyramid.now from.0 strings.now.head strings.now.next table.old to.0 table.new }
 {
-    let n = stretch.sizes.n;
-    let darts = stretch.sizes.darts;
-    let to = stretch.to.0;
-    for l in stretch.from.0..to {
-        let first = head[l as usize];
+    // By level: it picks the string, and is the kernel's own.
+    for l in from.0..to.0 {
         let kernel = Kernel {
-            n,
-            darts,
+            n: pyramid.sizes.n,
+            darts: pyramid.sizes.darts,
             level: Level(l),
-            first,
+            first: strings.head[l as usize],
+            lambda: pyramid.lambda,
+            delta: pyramid.delta,
+            next: &strings.next,
         };
-        if let Check::Refused(r) = kernels::step(kernel, lambda, delta, next, table) {
-            return Check::Refused(r);
-        }
+        kernel.step(table)?;
     }
-    Check::Accepted
+    Ok(())
 }
 
 // Kernels 0 to level−1, from the base.
-pub fn climb_to(at: AtLevel, rows: &[u16], lambda: &[u8], delta: &[u8], table: &mut [u16]) -> Check
-    requires { Base (lent at.sizes rows.now lambda.now delta.now) × (at.level.0 ≤ at.sizes.h.0) × (length table.old ≡ length rows.now) }
-    ensures verdict { verdict_of result ≡ climbs_to (lent at.sizes rows.now lambda.now delta.now) at.level.0 }
-    ensures table_left { table.new ≡ climb_to_leaves (lent at.sizes rows.now lambda.now delta.now) at.level.0 }
+pub fn climb_to(pyramid: &Pyramid<'_>, level: Level, table: &mut [u16]) -> Result<(), Refusal>
+    requires { Base (folded pyramid.now) × (level.0 ≤ pyramid.now.sizes.h.0) × (length table.old ≡ length pyramid.now.rows.now) }
+    ensures verdict { verdict_of result ≡ climbs_to (folded pyramid.now) level.0 }
+    ensures table_left { table.new ≡ climb_to_leaves (folded pyramid.now) level.0 }
 {
-    let mut head = [ABSENT; HEADS];
-    let mut next = [0u16; ROOM];
-    begin(rows, lambda, &mut head, &mut next, table);
-    let sizes = at.sizes;
-    let stretch = Stretch {
-        sizes,
-        from: Level(0),
-        to: Level(at.level.0),
+    let mut strings = Strings {
+        head: [ABSENT; HEADS],
+        next: [0; ROOM],
     };
-    go_on(stretch, lambda, delta, &head, &next, table)
+    begin(pyramid, &mut strings, table);
+    go_on(pyramid, &strings, Level(0), level, table)
 }
 
 // Kernels 0 to h−1, from the base.
-pub fn rise(sizes: Sizes, rows: &[u16], lambda: &[u8], delta: &[u8], table: &mut [u16]) -> Check
-    requires { Base (lent sizes rows.now lambda.now delta.now) × (length table.old ≡ length rows.now) }
-    ensures verdict { verdict_of result ≡ climbs (lent sizes rows.now lambda.now delta.now) }
-    ensures table_left { table.new ≡ climb_leaves (lent sizes rows.now lambda.now delta.now) }
+pub fn rise(pyramid: &Pyramid<'_>, table: &mut [u16]) -> Result<(), Refusal>
+    requires { Base (folded pyramid.now) × (length table.old ≡ length pyramid.now.rows.now) }
+    ensures verdict { verdict_of result ≡ climbs (folded pyramid.now) }
+    ensures table_left { table.new ≡ climb_leaves (folded pyramid.now) }
 {
-    let level = sizes.h;
-    climb_to(AtLevel { sizes, level }, rows, lambda, delta, table)
+    climb_to(pyramid, pyramid.sizes.h, table)
 }

@@ -8,99 +8,86 @@ ghost use Rattle.answers.specs.Numbers.{verdict_of};
 ghost use Rattle.combinatorial.specs.Rows.{Row, tests_of, Kept, Pairs, Turns};
 ghost use Rattle.combinatorial.specs.Left.{ImportLeft};
 
-use answers::{Check, Dim, Level, PARTNER_DARTS, Refusal};
+use answers::{Dim, Level, PARTNER_DARTS, Refusal};
 
-// Numbers 2 and 4: M, and whether every slice lent has the exact length.
-fn sizes(darts: u16, edges: usize, vertices: usize, rows: usize) -> Check
-    ensures { verdict_of result ≡ number2_m darts then number4 (eqb edges darts && (eqb vertices darts && eqb rows (6 * darts))) }
+// Have slices of these lengths the exact ones?
+fn lengths_fit(darts: u16, edges: usize, vertices: usize, rows: usize) -> bool
+    ensures { result ≡ (eqb edges darts && (eqb vertices darts && eqb rows (6 * darts))) }
 {
-    if darts < 1 {
-        return Check::Refused(Refusal::Darts);
-    }
-    if PARTNER_DARTS < darts {
-        return Check::Refused(Refusal::Darts);
-    }
-    let fit = answers::both(vertices == darts as usize, rows == 6 * darts as usize);
-    if !answers::both(edges == darts as usize, fit) {
-        return Check::Refused(Refusal::Length);
-    }
-    Check::Accepted
+    let width = darts as usize;
+    edges == width && (vertices == width && rows == 6 * width)
 }
 
-// Is an entry no dart of the partner's? The loop has no exit, so that the compiler may take many entries at once.
-pub fn any_outside(darts: u16, row: &[u16]) -> bool
-    ensures { result ≡ false → (d : ℕ) → d < length row.now → each row.now d < darts }
+// Numbers 2 and 4: M, and whether every slice lent has the exact length.
+fn sizes(darts: u16, edges: usize, vertices: usize, rows: usize) -> Result<(), Refusal>
+    ensures { verdict_of result ≡ number2_m darts then number4 (eqb edges darts && (eqb vertices darts && eqb rows (6 * darts))) }
 {
-    let mut any = false;
-    for d in 0..row.len() {
-        any = any | (darts <= row[d]);
+    if darts < 1 || PARTNER_DARTS < darts {
+        return Err(Refusal::Darts);
     }
-    any
+    if !lengths_fit(darts, edges, vertices, rows) {
+        return Err(Refusal::Length);
+    }
+    Ok(())
 }
 
 // Number 5 of a row of the partner's; the place is sought only if there is one.
-fn outside(darts: u16, i: Dim, row: &[u16]) -> Check
+fn outside(darts: u16, i: Dim, row: &[u16]) -> Result<(), Refusal>
     requires { length row.now ≡ darts }
     ensures { verdict_of result ≡ outside_of darts i.0 row.now }
 {
-    if !any_outside(darts, row) {
-        return Check::Accepted;
+    if bases::largest(row) < darts {
+        return Ok(());
     }
+    // By dart: its number is that of the refusal.
     for d in 0..darts {
-        let place = d as usize;
-        if darts <= row[place] {
-            return Check::Refused(Refusal::Strays(Level(0), i, d));
+        if darts <= row[d as usize] {
+            return Err(Refusal::Strays(Level(0), i, d));
         }
     }
-    Check::Accepted
+    Ok(())
 }
 
 // Number 6 of the edge row.
-fn not_twice(darts: u16, edges: &[u16]) -> Check
+fn not_twice(darts: u16, edges: &[u16]) -> Result<(), Refusal>
     requires { Row darts edges.now }
     ensures { verdict_of result ≡ edges_back darts edges.now }
 {
+    // By dart: where its partner leads is compared with its number.
     for d in 0..darts {
-        let place = d as usize;
-        let partner = edges[place] as usize;
+        let partner = edges[d as usize] as usize;
         if edges[partner] != d {
-            return Check::Refused(Refusal::NotTwice(Dim(0), d));
+            return Err(Refusal::NotTwice(Dim(0), d));
         }
     }
-    Check::Accepted
+    Ok(())
 }
 
 // Number 21. A flag for each dart says whether it is the image of a dart before.
-fn two_to_one(darts: u16, vertices: &[u16]) -> Check
+fn two_to_one(darts: u16, vertices: &[u16]) -> Result<(), Refusal>
     requires { Row darts vertices.now × (darts ≤ 2048) }
     ensures { verdict_of result ≡ number21 darts vertices.now }
 {
     let mut had = [false; PARTNER_DARTS as usize];
+    // By dart: its number is that of the refusal.
     for d in 0..darts {
-        let place = d as usize;
-        let image = vertices[place] as usize;
+        let image = vertices[d as usize] as usize;
         if had[image] {
-            return Check::Refused(Refusal::TwoToOne(d));
+            return Err(Refusal::TwoToOne(d));
         }
         had[image] = true;
     }
-    Check::Accepted
+    Ok(())
 }
 
 // Numbers 5, 6 and 21, of rows of the exact length.
-fn rows_refused(darts: u16, edges: &[u16], vertices: &[u16]) -> Check
+fn rows_refused(darts: u16, edges: &[u16], vertices: &[u16]) -> Result<(), Refusal>
     requires { (length edges.now ≡ darts) × (length vertices.now ≡ darts) × (darts ≤ 2048) }
     ensures { verdict_of result ≡ tests_of darts edges.now vertices.now }
 {
-    if let Check::Refused(r) = outside(darts, Dim(0), edges) {
-        return Check::Refused(r);
-    }
-    if let Check::Refused(r) = outside(darts, Dim(1), vertices) {
-        return Check::Refused(r);
-    }
-    if let Check::Refused(r) = not_twice(darts, edges) {
-        return Check::Refused(r);
-    }
+    outside(darts, Dim(0), edges)?;
+    outside(darts, Dim(1), vertices)?;
+    not_twice(darts, edges)?;
     two_to_one(darts, vertices)
 }
 
@@ -119,6 +106,7 @@ fn put_edges(darts: u16, edges: &[u16], rows: &mut [u16])
     ensures written { Pairs darts 0 (λ d. 2 * each edges.now d) rows.new }
     ensures kept { Kept darts 0 rows.old rows.new }
 {
+    // By dart: it gives the places that are written.
     for d in 0..darts {
         let from = d as usize;
         put_pair(2 * edges[from], 2 * from, rows);
@@ -133,6 +121,7 @@ fn put_vertices(darts: u16, vertices: &[u16], rows: &mut [u16])
     ensures kept { Kept darts (2 * darts) rows.old rows.new }
 {
     let start = 2 * darts as usize;
+    // By dart: it gives the places that are written.
     for d in 0..darts {
         let from = d as usize;
         let successor = vertices[from];
@@ -157,18 +146,14 @@ fn put_sides(darts: u16, rows: &mut [u16])
 }
 
 // Bring in a 2D combinatorial map of M darts. All is tested before an entry is written.
-pub fn import(darts: u16, edges: &[u16], vertices: &[u16], rows: &mut [u16]) -> Check
+pub fn import(darts: u16, edges: &[u16], vertices: &[u16], rows: &mut [u16]) -> Result<(), Refusal>
     ensures verdict { verdict_of result ≡ import_lent darts edges.now vertices.now rows.old }
     ensures rows_left { ImportLeft darts edges.now vertices.now rows.old rows.new }
 {
-    if let Check::Refused(r) = sizes(darts, edges.len(), vertices.len(), rows.len()) {
-        return Check::Refused(r);
-    }
-    if let Check::Refused(r) = rows_refused(darts, edges, vertices) {
-        return Check::Refused(r);
-    }
+    sizes(darts, edges.len(), vertices.len(), rows.len())?;
+    rows_refused(darts, edges, vertices)?;
     put_edges(darts, edges, rows);
     put_vertices(darts, vertices, rows);
     put_sides(darts, rows);
-    Check::Accepted
+    Ok(())
 }

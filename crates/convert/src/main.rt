@@ -7,7 +7,6 @@ ghost use Rattle.std.specs.Prelude.{◌≤◌, length};
 use answers::{MOST_BYTES, MOST_ENTRIES, ROOM};
 use programs::MOST_INPUT;
 use std::io;
-use writing::Written;
 
 // The new record, which stands at the front of the buffer.
 fn hand_out(to: &impl Print, new: &[u8], size: u32) -> io::Result<()>
@@ -32,7 +31,7 @@ fn main(rt: HostRuntime) -> io::Result<()> {
         &mut table,
         &mut new,
     ) {
-        Written::Refused(r) => programs::refuse(&rt.stderr(), r),
-        Written::Bytes(size) => hand_out(&rt, &new, size),
+        Err(r) => programs::refuse(&rt.stderr(), r),
+        Ok(size) => hand_out(&rt, &new, size),
     }
 }

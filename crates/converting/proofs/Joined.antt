@@ -2,7 +2,8 @@
 use mathlib.Core.Path.{◌≡◌, refl, sym, ap, ap₂, ◌∙◌}
 use mathlib.Core.List.{List}
 use Prim.Native.Nat.{ℕ, suc, ◌*◌, ◌≤◌}
-use lib.ListN.{length, take}
+use native.Mathlib.Omega.{arith}
+use lib.ListN.{length, take, length-take}
 use lib.Dec.{leb}
 use borrow.Author.Tests.{leb-true}
 use Rattle.maps.specs.Verdict.{Verdict, accepted, if_accepted, ◌then◌}
@@ -20,6 +21,7 @@ use Rattle.answers.proofs.Refusals.{refusal_keeps, refused_first}
 use Rattle.taking.specs.Answers.{Outcome as Taking, saying, taken}
 use Rattle.taking.proofs.Joined.{rows_front, lambda_front, delta_front, taken_both}
 use Rattle.writing.specs.Answers.{Outcome, Checked, buffer_lent, putting, put_leaves}
+use Rattle.writing.proofs.Whole.{accepts}
 use Rattle.converting.specs.Answers.{converted}
 
 module _ (b rows lambda delta table new : List ℕ) where
@@ -76,6 +78,12 @@ module _ (b rows lambda delta table new : List ℕ) where
 
     pub checked : Checked (of_parts n N h (take (suc n * N) rows') (take N lambda') (take N delta'))
     checked = (_, ap (λ (f : Folded). check_lent f (take (suc (record_dimension b) * record_darts b) table)) front_is ∙ (taken_both b either rows lambda delta table takes).1)
+
+    -- it lies in the slices
+    pub fits : (n ≤ 4) × (N ≤ 4096) × (suc n * N ≤ length rows') × (N ≤ length lambda') × (N ≤ length delta')
+    fits =
+        let p = accepts _ checked in
+        (p.dimension.1, p.darts.1, omega (arith, p.rows_length, length-take (suc n * N) rows'), omega (arith, p.lambda_length, length-take N lambda'), omega (arith, p.delta_length, length-take N delta'))
 
     pub all_written : {o : Outcome} {new' : List ℕ}
         → o ≡ putting (of_parts n N h (take (suc n * N) rows') (take N lambda') (take N delta')) new

@@ -4,24 +4,10 @@
 ghost use Rattle.std.specs.Prelude.{◌≡◌};
 ghost use Rattle.maps.specs.Record.{either, take_rows, take_lambda, take_delta, take_table};
 ghost use Rattle.maps.specs.Convert.{convert_leaves};
-ghost use Rattle.taking.specs.Front.{front};
-ghost use Rattle.writing.specs.Answers.{written_of, Checked, putting, put_leaves};
+ghost use Rattle.writing.specs.Answers.{written_of};
 ghost use Rattle.converting.specs.Answers.{converted};
 
-use answers::Sizes;
-use taking::Taken;
-use writing::Written;
-
-// The record of an accepted pyramid that stands at the front of slices.
-fn write_front(sizes: Sizes, rows: &[u16], lambda: &[u8], delta: &[u8], new: &mut [u8]) -> Written
-    requires { Checked (front sizes rows.now lambda.now delta.now) }
-    ensures answer { written_of result ≡ putting (front sizes rows.now lambda.now delta.now) new.old }
-    ensures new_left { new.new ≡ put_leaves (front sizes rows.now lambda.now delta.now) new.old }
-{
-    let width = sizes.darts as usize;
-    let size = answers::entries(sizes.n, sizes.darts);
-    writing::write_accepted(sizes, &rows[..size], &lambda[..width], &delta[..width], new)
-}
+use answers::{Pyramid, Refusal};
 
 // Convert an old record. Rows, Λ, Δ and the table are left as taking leaves them; nothing of the buffer is written before the pyramid is accepted.
 pub fn convert(
@@ -31,7 +17,7 @@ pub fn convert(
     delta: &mut [u8],
     table: &mut [u16],
     new: &mut [u8],
-) -> Written
+) -> Result<u32, Refusal>
     ensures answer { written_of result ≡ converted old.now rows.old lambda.old delta.old table.old new.old }
     ensures rows_left { rows.new ≡ take_rows old.now either rows.old lambda.old delta.old table.old }
     ensures lambda_left { lambda.new ≡ take_lambda old.now either rows.old lambda.old delta.old table.old }
@@ -39,8 +25,12 @@ pub fn convert(
     ensures table_left { table.new ≡ take_table old.now either rows.old lambda.old delta.old table.old }
     ensures new_left { new.new ≡ convert_leaves old.now rows.old lambda.old delta.old table.old new.old }
 {
-    match taking::take_old(old, rows, lambda, delta, table) {
-        Taken::Refused(r) => Written::Refused(r),
-        Taken::Record(sizes) => write_front(sizes, rows, lambda, delta, new),
-    }
+    let sizes = taking::take_old(old, rows, lambda, delta, table)?;
+    let taken = Pyramid {
+        sizes,
+        rows: &*rows,
+        lambda: &*lambda,
+        delta: &*delta,
+    };
+    writing::write_accepted(&taking::at_front(&taken), new)
 }

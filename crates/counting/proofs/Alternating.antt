@@ -1,19 +1,14 @@
 -- Laws of the alternating sum: in two halves, with unused places, and that a difference of two small counts fits an `i32`. Assumes nothing.
 use mathlib.Core.Path.{◌≡◌, refl, sym, ap, subst, ◌∙◌}
 use mathlib.Core.Bool.{Bool, true, false, cond}
-use mathlib.Core.List.{List}
 use Prim.Native.Nat.{ℕ, zero, suc, ◌+◌, ◌-◌, ◌^◌, ◌≤◌, ◌<◌}
 use native.Mathlib.Nat.{add-suc, add-zero}
 use native.Mathlib.Omega.{arith}
 use lib.Dec.{ltb}
-use lib.ListN.{length, get_or, set}
-use lib.Seq.{get_or-set_same, get_or-set_other}
 use lib.IntN.{ℤ, pos, negsuc, neg_ℤ, ◌+ℤ◌, ◌-ℤ◌, +ℤ_comm, +ℤ_assoc, +ℤ_idr, neg_ℤ-+ℤ}
 use lib.Signed.{mag}
-use borrow.Author.Count.{below_more}
 use mir.Syntax.{w32}
-use mir.Val.{SFits, to_z}
-use mir.ValLaws.{to_z_pos}
+use mir.Val.{SFits}
 use Rattle.maps.specs.Count.{sum}
 use Rattle.maps.specs.Census.{even, alternating}
 
@@ -81,20 +76,5 @@ mag_sub : (a b n : ℕ) → a < n → b < n → mag (pos a -ℤ pos b) < n
 mag_sub a zero n h k = let e : a + 0 ≡ a = omega arith in subst (λ (m : ℕ). m < n) (sym e) h
 mag_sub a (suc b) n h k = mag_choice (ltb a (suc b)) (suc b - suc a) (a - suc b) n (omega arith) (omega arith)
 
-pub difference_fits : (a b : ℕ) → a ≤ 12288 → b ≤ 12288 → SFits w32 (pos a -ℤ pos b)
+pub difference_fits : (a b : ℕ) → a ≤ 196605 → b ≤ 196605 → SFits w32 (pos a -ℤ pos b)
 difference_fits a b h k = record { sfits = mag_sub a b (2 ^ 31) (omega arith) (omega arith) }
-
--- what the machine subtracts are the numbers
-pub plain : (a b : ℕ) → a ≤ 12288 → b ≤ 12288 → to_z w32 a -ℤ to_z w32 b ≡ pos a -ℤ pos b
-plain a b h k = λ i. to_z_pos w32 a (omega arith) i -ℤ to_z_pos w32 b (omega arith) i
-
--- a list of sums with one more
-pub sums_more : (f : ℕ → ℤ) (sums : List ℤ) (k : ℕ) (v : ℤ) → k < length sums → ((x : ℕ) → x < k → get_or sums x (pos 0) ≡ f x) → v ≡ f k → (x : ℕ) → x < k + 1 → get_or (set sums k v) x (pos 0) ≡ f x
-sums_more f sums k v lk below e =
-    below_more (λ x. get_or (set sums k v) x (pos 0) ≡ f x) k
-    (λ x l. get_or-set_other sums k x v (pos 0) (λ q. omega arith) ∙ below x l)
-    (get_or-set_same sums k v (pos 0) lk ∙ e)
-
--- the sum of five counts that are small fits too
-pub alternating_fits : (c : ℕ → ℕ) → ((i : ℕ) → i < 5 → c i ≤ 4096) → SFits w32 (alternating c 5)
-alternating_fits c h = rw (alternating_five c) (difference_fits (c 0 + c 2 + c 4) (c 1 + c 3) (omega (arith, h 0 (omega arith), h 2 (omega arith), h 4 (omega arith))) (omega (arith, h 1 (omega arith), h 3 (omega arith))))

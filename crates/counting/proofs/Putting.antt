@@ -9,9 +9,6 @@ use lib.Seq.{get_or-set_same, get_or-set_other}
 use lib.Dec.{leb, ltb}
 use lib.IntN.{ℤ}
 use borrow.Author.Count.{below_more}
-use borrow.Author.Tests.{ltb-true, ltb-false}
-use mir.Syntax.{w32}
-use mir.Val.{SFits}
 use Rattle.maps.specs.Verdict.{Verdict, accepted, refused, when, ◌then◌}
 use Rattle.maps.specs.Sizes.{number1, number2, number3, number4, sizes}
 use Rattle.maps.specs.Table.{each}
@@ -26,9 +23,9 @@ use Rattle.answers.specs.Numbers.{refusal_of}
 use Rattle.answers.specs.declared.Refusal.{Refusal}
 use Rattle.answers.proofs.Refusals.{Refuses, refusal_refuses}
 use Rattle.counting.specs.Counts.{Counted}
-use Rattle.counting.specs.Slices.{RowPut, CellsPut, Fitting}
-use Rattle.counting.proofs.Alternating.{alternating_same, alternating_fits}
-use Rattle.counting.proofs.Whole.{counted_few, counted_used, taken_counted}
+use Rattle.counting.specs.Slices.{RowPut, CellsPut}
+use Rattle.counting.proofs.Alternating.{alternating_same}
+use Rattle.counting.proofs.Whole.{taken_counted}
 
 -- one count more of row l
 pub row_put_more : (cells row : List ℕ) (l i v : ℕ) → 5 * l + i < length cells → ((x : ℕ) → x < i → count_in cells l x ≡ each row x) → v ≡ each row i → (x : ℕ) → x < i + 1 → count_in (set cells (5 * l + i) v) l x ≡ each row x
@@ -113,17 +110,7 @@ module _ (P : Folded) (table cells : List ℕ) (sums : List ℤ) where
     counted : Counted P counts (h + 1)
     counted = taken_counted P counts all taken
 
-    -- its sums fit
-    pub all_fit : Fitting all
-    all_fit = record { long = taken.sums_long; fits = λ l ll. go l ll (ltb h l) refl }
-      where
-        go : (l : ℕ) → l < 33 → (b : Bool) → ltb h l ≡ b → SFits w32 (sum_at all l)
-        go l ll true q = rw (taken.census.unused_sum l ll (ltb-true h l q)) (record { sfits = omega arith })
-        go l ll false q =
-            let low = ltb-false h l q in
-            rw (taken.census.sum l low ∙ sym (counted_used P table p counts counted l low)) (alternating_fits (count_at counts l) (λ i li. (counted_few P table p counts counted).few l i ll li))
-
-    -- and it is the census in slices
+    -- it is the census in slices
     pub put_left : census_fits cells sums ≡ true → (cells' : List ℕ) (sums' : List ℤ) → CellsPut counts cells' → sums' ≡ all → Left cells' sums'
     put_left same cells' sums' w e =
         let is : lent ≡ accepted = sym (fine ∙ same_verdict same) in

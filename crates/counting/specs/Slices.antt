@@ -1,9 +1,7 @@
 -- Counts and sums as they are put into slices. Assumes nothing: these are definitions.
-use Rattle.std.specs.Prelude.{◌≡◌, List, ℕ, ◌*◌, ◌<◌, length, get_or, ℤ}
-use Rattle.std.specs.Int.{w32}
-use Rattle.std.proofs.Common.{SFits}
+use Rattle.std.specs.Prelude.{◌≡◌, List, ℕ, ◌*◌, ◌<◌, length, get_or}
 use Rattle.maps.specs.Table.{each}
-use Rattle.maps.specs.Census.{count_at, count_in, sum_at}
+use Rattle.maps.specs.Census.{count_at, count_in}
 
 -- row l stands in its five places, and the places before them are as they were
 pub record RowPut (row : List ℕ) (l : ℕ) (old new : List ℕ) : Type 0 where
@@ -15,8 +13,3 @@ pub record RowPut (row : List ℕ) (l : ℕ) (old new : List ℕ) : Type 0 where
 pub record CellsPut (counts : List (List ℕ)) (cells : List ℕ) : Type 0 where
   pub long : length cells ≡ 165
   pub put : (l i : ℕ) → l < 33 → i < 5 → count_in cells l i ≡ count_at counts l i
-
--- 33 sums that fit an `i32`
-pub record Fitting (sums : List ℤ) : Type 0 where
-  pub long : length sums ≡ 33
-  pub fits : (l : ℕ) → l < 33 → SFits w32 (sum_at sums l)

@@ -19,14 +19,15 @@ use Rattle.answers.specs.Numbers.{refusal_of}
 use Rattle.answers.specs.declared.Refusal.{Refusal}
 use Rattle.answers.proofs.Refusals.{refusal_keeps, refused_first, refused_second}
 use Rattle.decimation.specs.Answers.{Outcome, factor_of, factor_between, decimating}
-use Rattle.decimation.specs.declared.Factor.TheVariants.{By, Empty, Refused}
+use Rattle.std.specs.Prelude.{Ok, Err}
+use Rattle.decimation.specs.declared.Factor.TheVariants.{By, Empty}
 
 -- what is answered between two counts
 abbrev between : ℕ → ℕ → Outcome
 between count next = record { verdict = accepted; empty = one (eqb next 0); factor = cond (eqb next 0) (double 0) (quotient count next) }
 
--- the enum's answer says the same
-said : (none : Bool) (factor : Float) → factor_of (cond none Empty (By factor)) ≡ record { verdict = accepted; empty = one none; factor = cond none (double 0) factor }
+-- the function's answer says the same
+said : (none : Bool) (factor : Float) → factor_of (Ok (cond none Empty (By factor))) ≡ record { verdict = accepted; empty = one none; factor = cond none (double 0) factor }
 said true factor = refl
 said false factor = refl
 
@@ -43,7 +44,7 @@ module _ (P : Folded) (table : List ℕ) (l : ℕ) where
   unfolding decimation_lent
   tests = refl
 
-  not_answered : (r : Refusal) → refusal_of r ≡ verdict → Answers (factor_of (Refused r))
+  not_answered : (r : Refusal) → refusal_of r ≡ verdict → Answers (factor_of (Err r))
   unfolding decimation_empty decimation_factor
   not_answered r e =
       let Λ = each lambda in
@@ -52,7 +53,7 @@ module _ (P : Folded) (table : List ℕ) (l : ℕ) where
       λ i. record { verdict = e i; empty = empty i; factor = factor i }
 
   -- what the check refuses
-  pub check_refused : (r : Refusal) → refusal_of r ≡ check_lent P table → Answers (factor_of (Refused r))
+  pub check_refused : (r : Refusal) → refusal_of r ≡ check_lent P table → Answers (factor_of (Err r))
   check_refused r e = not_answered r (refused_first verdict _ _ tests r e)
 
   module _ (e : accepted ≡ check_lent P table) where
@@ -60,11 +61,11 @@ module _ (P : Folded) (table : List ℕ) (l : ℕ) where
     accepts = check_accepts P table (sym e)
 
     -- a level that has no next
-    pub no_next : (r : Refusal) → refusal_of r ≡ refused 11 l 0 0 → h ≤ l → Answers (factor_of (Refused r))
+    pub no_next : (r : Refusal) → refusal_of r ≡ refused 11 l 0 0 → h ≤ l → Answers (factor_of (Err r))
     no_next r is high = not_answered r (refused_second verdict _ _ tests r e (rw (le-leb h l high) is))
 
     -- the answer, from the two counts
-    pub answered : (count next : ℕ) → l < h → count ≡ survivors (length lambda) (each lambda) l → next ≡ survivors (length lambda) (each lambda) (suc l) → Answers (factor_of (factor_between count next))
+    pub answered : (count next : ℕ) → l < h → count ≡ survivors (length lambda) (each lambda) l → next ≡ survivors (length lambda) (each lambda) (suc l) → Answers (factor_of (Ok (factor_between count next)))
     unfolding decimation_empty decimation_factor
     answered count next low first second =
         let v : verdict ≡ accepted = tests ∙ rw (← e, lt-leb h l low) in

@@ -2,9 +2,9 @@
 // What is printed no contract can say.
 #![tactic(auto)]
 
-ghost use Rattle.std.specs.Prelude.{◌<◌};
+ghost use Rattle.std.specs.Prelude.{◌<◌, ◌≤◌};
 
-use answers::{Check, Dim, Level, Question, Refusal, Sizes};
+use answers::{Dim, Level, Pyramid, Question, Refusal, Sizes};
 use std::io;
 
 // What was tried, and its answer: taken, or refused with number, level, involution and dart.
@@ -17,58 +17,46 @@ fn converted(to: &impl Print, name: &str) -> io::Result<()> {
 }
 
 fn refused(to: &impl Print, name: &str, refusal: Refusal) -> io::Result<()> {
-    print!(to; "{name}: ")?;
-    programs::refuse(to, refusal)
+    println!(to; "{name}: refused {refusal}")
 }
 
-fn checked(to: &impl Print, name: &str, check: Check) -> io::Result<()> {
+fn checked(to: &impl Print, name: &str, check: Result<(), Refusal>) -> io::Result<()> {
     match check {
-        Check::Accepted => taken(to, name),
-        Check::Refused(r) => refused(to, name, r),
+        Ok(()) => taken(to, name),
+        Err(r) => refused(to, name, r),
     }
-}
-
-// The next dart, or dart 0 after the last.
-fn after(d: u16, darts: u16) -> u16
-    requires { 0 < darts }
-    ensures { result < darts }
-{
-    if d < darts - 1 {
-        return d + 1;
-    }
-    0
 }
 
 // Rows in which every dart is its own neighbour.
 fn free_rows(darts: u16, rows: &mut [u16])
     requires { 0 < darts }
 {
-    let mut d: u16 = 0;
-    for k in 0..rows.len() {
-        rows[k] = d;
-        d = after(d, darts);
+    for (k, entry) in rows.iter_mut().enumerate() {
+        *entry = (k % darts as usize) as u16;
     }
 }
 
 // n=1, N=2, a0 = 1 1, a1 = 0 1, h=1, dart 1 removed: a0 of 0 at level 1.
 fn unchecked_reading(to: &impl Print) -> io::Result<()> {
-    match reading::read(
-        Sizes {
-            n: Dim(1),
-            h: Level(1),
-            darts: 2,
-        },
-        &[1u16, 1, 0, 1],
-        &[1u8, 0],
-        &[1u8, 0],
-        Question {
-            level: Level(1),
-            involution: Dim(0),
-            dart: 0,
-        },
-    ) {
-        reading::Reading::Found(_) => taken(to, "unchecked reading"),
-        reading::Reading::Refused(r) => refused(to, "unchecked reading", r),
+    let sizes = Sizes {
+        n: Dim(1),
+        h: Level(1),
+        darts: 2,
+    };
+    let pyramid = Pyramid {
+        sizes,
+        rows: &[1u16, 1, 0, 1],
+        lambda: &[1u8, 0],
+        delta: &[1u8, 0],
+    };
+    let asked = Question {
+        level: Level(1),
+        involution: Dim(0),
+        dart: 0,
+    };
+    match reading::read(&pyramid, asked) {
+        Ok(_) => taken(to, "unchecked reading"),
+        Err(r) => refused(to, "unchecked reading", r),
     }
 }
 
@@ -86,44 +74,25 @@ fn darts(to: &impl Print) -> io::Result<()> {
     checked(to, "N 4097", bases::check_base(Dim(1), 4097, &more))
 }
 
-fn heights(to: &impl Print) -> io::Result<()> {
-    let mut table = [0u16; 2];
-    checked(
-        to,
-        "h 32",
-        checking::check(
-            Sizes {
-                n: Dim(1),
-                h: Level(32),
-                darts: 1,
-            },
-            &[0u16, 0],
-            &[32u8],
-            &[1u8],
-            &mut table,
-        ),
-    )?;
-    checked(
-        to,
-        "h 33",
-        checking::check(
-            Sizes {
-                n: Dim(1),
-                h: Level(33),
-                darts: 1,
-            },
-            &[0u16, 0],
-            &[33u8],
-            &[1u8],
-            &mut table,
-        ),
-    )
+// A pyramid of one dart that stays to height h.
+fn height(to: &impl Print, name: &str, h: u8) -> io::Result<()> {
+    let sizes = Sizes {
+        n: Dim(1),
+        h: Level(h),
+        darts: 1,
+    };
+    let pyramid = Pyramid {
+        sizes,
+        rows: &[0u16, 0],
+        lambda: &[h],
+        delta: &[1u8],
+    };
+    checked(to, name, checking::check(&pyramid, &mut [0u16; 2]))
 }
 
 // A level added at height h, on one dart that stays.
 fn added(to: &impl Print, name: &str, h: Level) -> io::Result<()> {
-    let mut lambda = [0u8; 1];
-    lambda[0] = h.0;
+    let mut lambda = [h.0];
     let mut delta = [1u8; 1];
     let mut table = [0u16; 2];
     match checking::add(
@@ -138,78 +107,75 @@ fn added(to: &impl Print, name: &str, h: Level) -> io::Result<()> {
         &[255u8],
         &mut table,
     ) {
-        checking::Height::Now(_) => taken(to, name),
-        checking::Height::Refused(r) => refused(to, name, r),
+        Ok(_) => taken(to, name),
+        Err(r) => refused(to, name, r),
     }
 }
 
-// What is converted: the first bytes of a buffer.
-fn convert_part(to: &impl Print, name: &str, bytes: &[u8], length: usize) -> io::Result<()> {
+// A record that is converted.
+fn convert(to: &impl Print, name: &str, bytes: &[u8]) -> io::Result<()> {
     let mut rows = [0u16; 514];
     let mut lambda = [0u8; 257];
     let mut delta = [0u8; 257];
     let mut table = [0u16; 514];
     let mut new = [0u8; 1600];
-    if length > bytes.len() {
-        return Ok(());
-    }
     match converting::convert(
-        &bytes[..length],
+        bytes,
         &mut rows,
         &mut lambda,
         &mut delta,
         &mut table,
         &mut new,
     ) {
-        writing::Written::Bytes(_) => converted(to, name),
-        writing::Written::Refused(r) => refused(to, name, r),
+        Ok(_) => converted(to, name),
+        Err(r) => refused(to, name, r),
     }
 }
 
-fn convert_front(to: &impl Print, name: &str, bytes: &[u8; 1050], length: usize) -> io::Result<()> {
-    convert_part(to, name, bytes, length)
-}
-
-// An old record, with rows of one byte an entry, in which every dart is its own neighbour: n = 1, h = 0, N = low + 256 high.
-fn one_byte_rows(to: &impl Print, name: &str, low: u8, high: u8) -> io::Result<()> {
+// An old record, with rows of one byte an entry, in which every dart is its own neighbour: n = 1, h = 0.
+fn one_byte_rows(to: &impl Print, name: &str, darts: u16) -> io::Result<()>
+    requires { darts ≤ 257 }
+{
     let mut bytes = [0u8; 1050];
-    let size = low as usize + 256 * high as usize + 3;
+    let size = usize::from(darts) + 3;
+    let [low, high] = darts.to_le_bytes();
     bytes[0] = 1;
     bytes[1] = 4;
     bytes[3] = 1;
     bytes[5] = low;
     bytes[6] = high;
-    field(&mut bytes, 7, 0x20, low, high);
+    field(&mut bytes, 7, 0x20, darts);
     free_from(&mut bytes, 10);
-    field(&mut bytes, 7 + size, 0x21, low, high);
+    field(&mut bytes, 7 + size, 0x21, darts);
     free_from(&mut bytes, 10 + size);
-    field(&mut bytes, 7 + 2 * size, 0x30, low, high);
+    field(&mut bytes, 7 + 2 * size, 0x30, darts);
     marks_from(&mut bytes, 10 + 2 * size, 0);
-    field(&mut bytes, 7 + 3 * size, 0x31, low, high);
+    field(&mut bytes, 7 + 3 * size, 0x31, darts);
     marks_from(&mut bytes, 10 + 3 * size, 1);
-    convert_front(to, name, &bytes, 7 + 4 * size)
+    convert(to, name, &bytes[..7 + 4 * size])
 }
 
 // A field's tag and length.
-fn field(bytes: &mut [u8; 1050], at: usize, tag: u8, low: u8, high: u8) {
-    if at < 1040 {
-        bytes[at] = tag;
-        bytes[at + 1] = low;
-        bytes[at + 2] = high;
-    }
+fn field(bytes: &mut [u8; 1050], at: usize, tag: u8, length: u16)
+    requires { at ≤ 1040 }
+{
+    let [low, high] = length.to_le_bytes();
+    bytes[at] = tag;
+    bytes[at + 1] = low;
+    bytes[at + 2] = high;
 }
 
 // From here to the end a row in which every dart is its own neighbour, as far as a byte tells.
 fn free_from(bytes: &mut [u8; 1050], from: usize) {
-    for k in from..1050 {
-        bytes[k] = ((k - from) % 256) as u8;
+    for (k, byte) in bytes.iter_mut().skip(from).enumerate() {
+        *byte = (k % 256) as u8;
     }
 }
 
 // From here to the end one mark for every dart.
 fn marks_from(bytes: &mut [u8; 1050], from: usize, mark: u8) {
-    for k in from..1050 {
-        bytes[k] = mark;
+    for byte in bytes.iter_mut().skip(from) {
+        *byte = mark;
     }
 }
 
@@ -217,9 +183,10 @@ fn main(rt: HostRuntime) -> io::Result<()> {
     unchecked_reading(&rt)?;
     dimensions(&rt)?;
     darts(&rt)?;
-    heights(&rt)?;
+    height(&rt, "h 32", 32)?;
+    height(&rt, "h 33", 33)?;
     added(&rt, "added at h 31", Level(31))?;
     added(&rt, "added at h 32", Level(32))?;
-    one_byte_rows(&rt, "one-byte rows at N 256", 0, 1)?;
-    one_byte_rows(&rt, "one-byte rows at N 257", 1, 1)
+    one_byte_rows(&rt, "one-byte rows at N 256", 256)?;
+    one_byte_rows(&rt, "one-byte rows at N 257", 257)
 }

@@ -19,10 +19,11 @@ use Rattle.maps.specs.Cost.{reads, cost}
 use Rattle.maps.specs.Unfold.{dart_of, at_walk}
 use Rattle.laws.proofs.Verdicts.{not_refused, scan_first, scan_more}
 use Rattle.laws.proofs.Tables.{listed_of, set_below, in_table, next_row}
+use Rattle.std.specs.Prelude.{Ok, Err}
+use Rattle.answers.specs.Numbers.{refusal_of}
 use Rattle.answers.specs.declared.Level.{Level}
-use Rattle.filling.specs.declared.Stop.{Stop}
-use Rattle.filling.specs.declared.Stop.TheVariants.{Nowhere}
-use Rattle.filling.specs.Walks.{stop_of, Leaves}
+use Rattle.answers.specs.declared.Refusal.{Refusal}
+use Rattle.filling.specs.Walks.{stops_walk, Leaves}
 
 sum_more : (f : ℕ → ℕ) (m : ℕ) → sum f (m + 1) ≡ sum f m + f m
 unfolding sum
@@ -31,6 +32,10 @@ sum_more f m = rw (add-one m)
 largest_more : (f : ℕ → ℕ) (m : ℕ) → largest f (m + 1) ≡ max (largest f m) (f m)
 unfolding largest
 largest_more f m = rw (add-one m)
+
+-- the number of a refusal
+same_number : {k l i d m a b c : ℕ} → refused k l i d ≡ refused m a b c → k ≡ m
+same_number e = cc
 
 module _ (f : Folded) (l : ℕ) where
   open f use {n, N, h, rows, lambda, delta}
@@ -91,14 +96,14 @@ module _ {f : Folded} {l i d total later : ℕ} {table : List ℕ} (s : Filled f
       }
 
   -- all rows are done
-  pub filled_all : i ≡ suc n → d ≡ 0 → {stop : Stop} → stop ≡ Nowhere → {top : Level} → later ≡ top.0 → Leaves f l record { stop = stop; total = total; since = top } table
+  pub filled_all : i ≡ suc n → d ≡ 0 → {top : Level} → later ≡ top.0 → Leaves f l (Ok record { count = total; since = top }) table
   unfolding cost explicit sum latest largest
-  filled_all e g q y =
+  filled_all e g y =
       let b : scan (suc n) (λ j. scan N (at f l j)) ≡ accepted = rw e at s.rows_before in
       let k : total ≡ sum (λ j. sum (counts f l j) N) (suc n) + sum (counts f l (suc n)) 0 = rw (e, g) at s.counted in
       let m : later ≡ max (largest (λ j. largest (sinces f l j) N) (suc n)) (largest (sinces f l (suc n)) 0) = rw (e, g) at s.raised in
       let z : suc n * N ≡ i * N + d = omega (arith, ap (λ (j : ℕ). j * N) e) in
-      record { size = s.size; first = ap (stop_of l) q ∙ sym b; total = λ _. omega (arith, k); since = λ _. omega (arith, m, y); level = λ _. listed_of (right f l) (suc n * N) table s.size (λ x lt. s.places x (omega arith)) }
+      record { size = s.size; first = sym b; stops = λ number level row dart e. absurd (not_refused (sym e ∙ b)); total = λ _. omega (arith, k); since = λ _. omega (arith, m, y); level = λ _. listed_of (right f l) (suc n * N) table s.size (λ x lt. s.places x (omega arith)) }
 
   -- the walk of dart d by row i is next
   module _ (li : i ≤ n) (ld : d < N) where
@@ -134,9 +139,9 @@ module _ {f : Folded} {l i d total later : ℕ} {table : List ℕ} (s : Filled f
       filled_end w few stood is g q y = rw (g, is, q, y) (more (rw (there, w, at_walk)) (rw (there, w)) (rw (there, w)) few (rw there stood))
 
       -- it is refused, the first of all
-      pub filled_missed : {number row dart : ℕ} → the_walk f l i d ≡ stopped number row dart → {stop : Stop} {top : Level} → stop_of l stop ≡ refused number l row dart → Leaves f l record { stop = stop; total = total; since = top } table
+      pub filled_missed : {number row dart : ℕ} → the_walk f l i d ≡ stopped number row dart → {why : Refusal} → refusal_of why ≡ refused number l row dart → stops_walk number ≡ true → Leaves f l (Err why) table
       unfolding at_walk
-      filled_missed {number} {row} {dart} w q =
+      filled_missed {number} {row} {dart} w q k =
           let darts = scan_first N (at f l i) d number l row dart ld s.darts_before (rw (there, w, at_walk)) in
           let all = scan_first (suc n) (λ j. scan N (at f l j)) i number l row dart (omega arith) s.rows_before darts in
-          record { size = s.size; first = q ∙ sym all; total = λ e. absurd (not_refused (sym all ∙ e)); since = λ e. absurd (not_refused (sym all ∙ e)); level = λ e. absurd (not_refused (sym all ∙ e)) }
+          record { size = s.size; first = q ∙ sym all; stops = λ m level t e x. rw (same_number (sym x ∙ all)) k; total = λ e. absurd (not_refused (sym all ∙ e)); since = λ e. absurd (not_refused (sym all ∙ e)); level = λ e. absurd (not_refused (sym all ∙ e)) }

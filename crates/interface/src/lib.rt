@@ -1,25 +1,29 @@
 // What the C interface answers: a struct for each kind of answer, made of the job's own. Assumes nothing.
 #![tactic(auto)]
 
-ghost use Rattle.std.specs.Prelude.{◌≡◌, ◌*◌, ◌≤◌, cond, eqb};
+ghost use Rattle.std.specs.Prelude.{◌≡◌, ◌*◌, ◌≤◌, Ok};
 ghost use Rattle.maps.specs.Verdict.{accepted};
 ghost use Rattle.answers.specs.Numbers.{refusal_of, verdict_of};
-ghost use Rattle.checking.specs.Answers.{verdict_by, height_of};
+ghost use Rattle.checking.specs.Answers.{height_of};
 ghost use Rattle.by_levels.specs.Answers.{value_of};
 ghost use Rattle.reading.specs.Answers.{value_of as link_of, stands_since};
-ghost use Rattle.one_level.specs.Answers.{check_of, total_of, latest_of};
-ghost use Rattle.survivor_words.specs.Answers.{verdict_of_survivors, count_of_survivors};
+ghost use Rattle.one_level.specs.Answers.{total_of, latest_of};
+ghost use Rattle.survivor_words.specs.Answers.{count_of_survivors};
 ghost use Rattle.taking.specs.Answers.{taken_of};
 ghost use Rattle.writing.specs.Answers.{written_of};
 ghost use Rattle.decimation.specs.Answers.{factor_of};
 ghost use Rattle.starting_again.specs.Answers.{rebased_of};
 ghost use Rattle.interface.specs.Flat.{refusal_for, said_by, reading_for, link_for, count_for, unfolding_for, height_for, part_for, record_for, written_for, factor_for, base_for, version_for};
 
-use answers::{Check, Dim, Level, Refusal, Sizes};
+use answers::{Dim, Level, Numbers, Refusal, Sizes};
+use by_levels::Neighbour;
+use decimation::Factor;
+use one_level::Unfolding;
+use reading::Link;
 
 // The document's number and values; all 0 where accepted.
 #[repr(C)]
-#[derive(Clone, Copy)]
+#[derive(Clone, Copy, Default)]
 pub struct ZgRefusal {
     pub number: u16,
     pub level: u16,
@@ -29,7 +33,7 @@ pub struct ZgRefusal {
 
 // A neighbour with the count of base entries read.
 #[repr(C)]
-#[derive(Clone, Copy)]
+#[derive(Clone, Copy, Default)]
 pub struct ZgReading {
     pub refusal: ZgRefusal,
     pub count: u32,
@@ -38,7 +42,7 @@ pub struct ZgReading {
 
 // A neighbour with the count of base entries read, and since which level the link stands.
 #[repr(C)]
-#[derive(Clone, Copy)]
+#[derive(Clone, Copy, Default)]
 pub struct ZgLink {
     pub refusal: ZgRefusal,
     pub count: u32,
@@ -48,7 +52,7 @@ pub struct ZgLink {
 
 // The total count of an unfolding, and since which level all its links stand.
 #[repr(C)]
-#[derive(Clone, Copy)]
+#[derive(Clone, Copy, Default)]
 pub struct ZgUnfolding {
     pub refusal: ZgRefusal,
     pub count: u32,
@@ -57,7 +61,7 @@ pub struct ZgUnfolding {
 
 // The survivor count.
 #[repr(C)]
-#[derive(Clone, Copy)]
+#[derive(Clone, Copy, Default)]
 pub struct ZgCount {
     pub refusal: ZgRefusal,
     pub count: u32,
@@ -65,7 +69,7 @@ pub struct ZgCount {
 
 // The height after a level is added or two kernels are joined; as given in a refusal.
 #[repr(C)]
-#[derive(Clone, Copy)]
+#[derive(Clone, Copy, Default)]
 pub struct ZgHeight {
     pub refusal: ZgRefusal,
     pub height: u8,
@@ -73,7 +77,7 @@ pub struct ZgHeight {
 
 // Where a row lies: a part of the base rows (unfolded 0) or of the unfolded level (unfolded 1).
 #[repr(C)]
-#[derive(Clone, Copy)]
+#[derive(Clone, Copy, Default)]
 pub struct ZgPart {
     pub refusal: ZgRefusal,
     pub unfolded: u8,
@@ -83,7 +87,7 @@ pub struct ZgPart {
 
 // n, h and N of a record that is taken.
 #[repr(C)]
-#[derive(Clone, Copy)]
+#[derive(Clone, Copy, Default)]
 pub struct ZgRecord {
     pub refusal: ZgRefusal,
     pub n: u8,
@@ -93,7 +97,7 @@ pub struct ZgRecord {
 
 // The length in bytes of a record that is written.
 #[repr(C)]
-#[derive(Clone, Copy)]
+#[derive(Clone, Copy, Default)]
 pub struct ZgWritten {
     pub refusal: ZgRefusal,
     pub length: u32,
@@ -101,7 +105,7 @@ pub struct ZgWritten {
 
 // By which factor the survivors become fewer, or that the next level has no dart (empty 1, factor 0).
 #[repr(C)]
-#[derive(Clone, Copy)]
+#[derive(Clone, Copy, Default)]
 pub struct ZgFactor {
     pub refusal: ZgRefusal,
     pub empty: u8,
@@ -110,295 +114,239 @@ pub struct ZgFactor {
 
 // The darts and the height of a new base; as given in a refusal.
 #[repr(C)]
-#[derive(Clone, Copy)]
+#[derive(Clone, Copy, Default)]
 pub struct ZgBase {
     pub refusal: ZgRefusal,
     pub darts: u16,
     pub h: u8,
 }
 
-// No refusal.
-fn accepts() -> ZgRefusal
-    ensures { result ≡ refusal_for accepted }
-{
-    ZgRefusal {
-        number: 0,
-        level: 0,
-        involution: 0,
-        dart: 0,
-    }
-}
-
 // A refusal.
-fn refused(refusal: Refusal) -> ZgRefusal
-    ensures { said_by result ≡ refusal_of refusal }
-{
-    let x = answers::numbers_of(refusal);
-    ZgRefusal {
-        number: x.number,
-        level: x.level,
-        involution: x.involution,
-        dart: x.dart,
+impl From<Refusal> for ZgRefusal {
+    ghost from_gives = { λ refusal said. said_by said ≡ refusal_of refusal };
+
+    fn from(refusal: Refusal) -> ZgRefusal {
+        let said = Numbers::from(refusal);
+        ZgRefusal {
+            number: said.number,
+            level: said.level,
+            involution: said.involution,
+            dart: said.dart,
+        }
     }
 }
 
 // The answer of a check.
-pub fn refusal_as(answer: Check) -> ZgRefusal
-    ensures { result ≡ refusal_for (verdict_of answer) }
-{
-    match answer {
-        Check::Accepted => accepts(),
-        Check::Refused(why) => refused(why),
+impl From<Result<(), Refusal>> for ZgRefusal {
+    ghost from_gives = { λ answer said. said ≡ refusal_for (verdict_of answer) };
+
+    fn from(answer: Result<(), Refusal>) -> ZgRefusal {
+        match answer {
+            Ok(()) => ZgRefusal::default(),
+            Err(why) => ZgRefusal::from(why),
+        }
     }
 }
 
 // The answer of a reading by levels.
-pub fn reading_as(answer: by_levels::Answered) -> ZgReading
-    ensures { result ≡ reading_for (value_of answer) }
-{
-    match answer {
-        by_levels::Answered::Found(found) => {
-            let refusal = accepts();
-            ZgReading {
-                refusal,
+impl From<Result<Neighbour, Refusal>> for ZgReading {
+    ghost from_gives = { λ answer said. said ≡ reading_for (value_of answer) };
+
+    fn from(answer: Result<Neighbour, Refusal>) -> ZgReading {
+        match answer {
+            Ok(found) => ZgReading {
+                refusal: ZgRefusal::default(),
                 count: found.count,
                 neighbour: found.dart,
-            }
-        },
-        by_levels::Answered::Refused(why) => {
-            let refusal = refused(why);
-            ZgReading {
-                refusal,
-                count: 0,
-                neighbour: 0,
-            }
-        },
+            },
+            Err(why) => ZgReading {
+                refusal: ZgRefusal::from(why),
+                ..ZgReading::default()
+            },
+        }
     }
 }
 
 // The answer of a direct reading.
-pub fn link_as(answer: reading::Reading) -> ZgLink
-    ensures { result ≡ link_for (link_of answer) (stands_since answer) }
-{
-    match answer {
-        reading::Reading::Found(link) => {
-            let refusal = accepts();
-            ZgLink {
-                refusal,
+impl From<Result<Link, Refusal>> for ZgLink {
+    ghost from_gives = { λ answer said. said ≡ link_for (link_of answer) (stands_since answer) };
+
+    fn from(answer: Result<Link, Refusal>) -> ZgLink {
+        match answer {
+            Ok(link) => ZgLink {
+                refusal: ZgRefusal::default(),
                 count: link.count,
                 neighbour: link.dart,
                 since: link.since.0,
-            }
-        },
-        reading::Reading::Refused(why) => {
-            let refusal = refused(why);
-            ZgLink {
-                refusal,
-                count: 0,
-                neighbour: 0,
-                since: 0,
-            }
-        },
+            },
+            Err(why) => ZgLink {
+                refusal: ZgRefusal::from(why),
+                ..ZgLink::default()
+            },
+        }
     }
 }
 
 // The answer of an unfolding.
-pub fn unfolding_as(answer: one_level::Total) -> ZgUnfolding
-    ensures { result ≡ unfolding_for (check_of answer) (total_of answer) (latest_of answer) }
-{
-    match answer {
-        one_level::Total::Counted(all) => {
-            let refusal = accepts();
-            ZgUnfolding {
-                refusal,
+impl From<Result<Unfolding, Refusal>> for ZgUnfolding {
+    ghost from_gives = { λ answer said. said ≡ unfolding_for (verdict_of answer) (total_of answer) (latest_of answer) };
+
+    fn from(answer: Result<Unfolding, Refusal>) -> ZgUnfolding {
+        match answer {
+            Ok(all) => ZgUnfolding {
+                refusal: ZgRefusal::default(),
                 count: all.count,
                 since: all.since.0,
-            }
-        },
-        one_level::Total::Refused(why) => {
-            let refusal = refused(why);
-            ZgUnfolding {
-                refusal,
-                count: 0,
-                since: 0,
-            }
-        },
+            },
+            Err(why) => ZgUnfolding {
+                refusal: ZgRefusal::from(why),
+                ..ZgUnfolding::default()
+            },
+        }
     }
 }
 
 // The answer of the survivor words.
-pub fn count_as(answer: survivor_words::Survivors) -> ZgCount
-    ensures { result ≡ count_for (verdict_of_survivors answer) (count_of_survivors answer) }
+impl From<Result<u32, Refusal>> for ZgCount {
+    ghost from_gives = { λ answer said. said ≡ count_for (verdict_of answer) (count_of_survivors answer) };
+
+    fn from(answer: Result<u32, Refusal>) -> ZgCount {
+        match answer {
+            Ok(count) => ZgCount {
+                refusal: ZgRefusal::default(),
+                count,
+            },
+            Err(why) => ZgCount {
+                refusal: ZgRefusal::from(why),
+                ..ZgCount::default()
+            },
+        }
+    }
+}
+
+// The answer of an add or a join, where h was the height: no `From`, since a refusal repeats it.
+pub fn height_as(h: Level, answer: Result<Level, Refusal>) -> ZgHeight
+    ensures { result ≡ height_for (verdict_of answer) (height_of h.0 answer) }
 {
     match answer {
-        survivor_words::Survivors::Counted(count) => {
-            let refusal = accepts();
-            ZgCount { refusal, count }
+        Ok(new) => ZgHeight {
+            refusal: ZgRefusal::default(),
+            height: new.0,
         },
-        survivor_words::Survivors::Refused(why) => {
-            let refusal = refused(why);
-            ZgCount { refusal, count: 0 }
-        },
-    }
-}
-
-// The answer of an add or a join, where h was the height.
-pub fn height_as(h: Level, answer: checking::Height) -> ZgHeight
-    ensures { result ≡ height_for (verdict_by answer) (height_of h.0 answer) }
-{
-    match answer {
-        checking::Height::Now(new) => {
-            let refusal = accepts();
-            ZgHeight {
-                refusal,
-                height: new.0,
-            }
-        },
-        checking::Height::Refused(why) => {
-            let refusal = refused(why);
-            ZgHeight {
-                refusal,
-                height: h.0,
-            }
+        Err(why) => ZgHeight {
+            refusal: ZgRefusal::from(why),
+            height: h.0,
         },
     }
 }
 
-// Is the row of a level other than 0?
-fn is_unfolded(level: Level) -> u8
-    ensures { result ≡ cond (eqb level.0 0) 0 1 }
-{
-    if level.0 == 0 {
-        return 0;
-    }
-    1
-}
-
-// The place of a row, or why it is refused.
-pub fn part_as(darts: u16, level: Level, involution: Dim, answer: Check) -> ZgPart
+// The place of a row, or why it is refused: no `From`, since the answer of the test has no place.
+pub fn part_as(darts: u16, level: Level, involution: Dim, answer: Result<(), Refusal>) -> ZgPart
     requires { verdict_of answer ≡ accepted → involution.0 * darts ≤ 16384 }
     ensures { result ≡ part_for (verdict_of answer) darts level.0 involution.0 }
 {
     match answer {
-        Check::Accepted => {
-            let refusal = accepts();
-            let unfolded = is_unfolded(level);
-            let start = involution.0 as u16 * darts;
-            ZgPart {
-                refusal,
-                unfolded,
-                start,
-                length: darts,
-            }
+        Ok(()) => ZgPart {
+            refusal: ZgRefusal::default(),
+            unfolded: u8::from(level.0 != 0),
+            start: u16::from(involution.0) * darts,
+            length: darts,
         },
-        Check::Refused(why) => {
-            let refusal = refused(why);
-            ZgPart {
-                refusal,
-                unfolded: 0,
-                start: 0,
-                length: 0,
-            }
+        Err(why) => ZgPart {
+            refusal: ZgRefusal::from(why),
+            ..ZgPart::default()
         },
     }
 }
 
 // The answer of taking a record.
-pub fn record_as(answer: taking::Taken) -> ZgRecord
-    ensures { result ≡ record_for (taken_of answer) }
-{
-    match answer {
-        taking::Taken::Record(sizes) => {
-            let refusal = accepts();
-            let n = sizes.n;
-            let h = sizes.h;
-            ZgRecord {
-                refusal,
-                n: n.0,
-                h: h.0,
-                darts: sizes.darts,
-            }
-        },
-        taking::Taken::Refused(why) => {
-            let refusal = refused(why);
-            ZgRecord {
-                refusal,
-                n: 0,
-                h: 0,
-                darts: 0,
-            }
-        },
+impl From<Result<Sizes, Refusal>> for ZgRecord {
+    ghost from_gives = { λ answer said. said ≡ record_for (taken_of answer) };
+
+    fn from(answer: Result<Sizes, Refusal>) -> ZgRecord {
+        match answer {
+            Ok(taken) => ZgRecord {
+                refusal: ZgRefusal::default(),
+                n: taken.n.0,
+                h: taken.h.0,
+                darts: taken.darts,
+            },
+            Err(why) => ZgRecord {
+                refusal: ZgRefusal::from(why),
+                ..ZgRecord::default()
+            },
+        }
     }
 }
 
 // The answer of writing a record.
-pub fn written_as(answer: writing::Written) -> ZgWritten
-    ensures { result ≡ written_for (written_of answer) }
-{
-    match answer {
-        writing::Written::Bytes(length) => {
-            let refusal = accepts();
-            ZgWritten { refusal, length }
-        },
-        writing::Written::Refused(why) => {
-            let refusal = refused(why);
-            ZgWritten { refusal, length: 0 }
-        },
+impl From<Result<u32, Refusal>> for ZgWritten {
+    ghost from_gives = { λ answer said. said ≡ written_for (written_of answer) };
+
+    fn from(answer: Result<u32, Refusal>) -> ZgWritten {
+        match answer {
+            Ok(length) => ZgWritten {
+                refusal: ZgRefusal::default(),
+                length,
+            },
+            Err(why) => ZgWritten {
+                refusal: ZgRefusal::from(why),
+                ..ZgWritten::default()
+            },
+        }
+    }
+}
+
+// A factor, or that the next level has no dart.
+impl From<Factor> for ZgFactor {
+    ghost from_gives = { λ factor said. said ≡ factor_for (factor_of (Ok factor)) };
+
+    fn from(factor: Factor) -> ZgFactor {
+        match factor {
+            Factor::By(factor) => ZgFactor {
+                refusal: ZgRefusal::default(),
+                empty: 0,
+                factor,
+            },
+            Factor::Empty => ZgFactor {
+                refusal: ZgRefusal::default(),
+                empty: 1,
+                factor: 0.0,
+            },
+        }
     }
 }
 
 // The answer of a decimation.
-pub fn factor_as(answer: decimation::Factor) -> ZgFactor
-    ensures { result ≡ factor_for (factor_of answer) }
-{
-    match answer {
-        decimation::Factor::By(factor) => {
-            let refusal = accepts();
-            ZgFactor {
-                refusal,
-                empty: 0,
-                factor,
-            }
-        },
-        decimation::Factor::Empty => {
-            let refusal = accepts();
-            ZgFactor {
-                refusal,
-                empty: 1,
-                factor: 0.0,
-            }
-        },
-        decimation::Factor::Refused(why) => {
-            let refusal = refused(why);
-            ZgFactor {
-                refusal,
+impl From<Result<Factor, Refusal>> for ZgFactor {
+    ghost from_gives = { λ answer said. said ≡ factor_for (factor_of answer) };
+
+    fn from(answer: Result<Factor, Refusal>) -> ZgFactor {
+        match answer {
+            Ok(factor) => ZgFactor::from(factor),
+            Err(why) => ZgFactor {
+                refusal: ZgRefusal::from(why),
                 empty: 0,
                 factor: 0.0,
-            }
-        },
+            },
+        }
     }
 }
 
-// The answer of starting again, where these were the sizes.
-pub fn base_as(sizes: Sizes, answer: starting_again::Rebased) -> ZgBase
+// The answer of starting again, where these were the sizes: no `From`, since a refusal repeats them.
+pub fn base_as(sizes: Sizes, answer: Result<Sizes, Refusal>) -> ZgBase
     ensures { result ≡ base_for (rebased_of sizes answer) }
 {
     match answer {
-        starting_again::Rebased::Base(fewer, height) => {
-            let refusal = accepts();
-            ZgBase {
-                refusal,
-                darts: fewer,
-                h: height.0,
-            }
+        Ok(new) => ZgBase {
+            refusal: ZgRefusal::default(),
+            darts: new.darts,
+            h: new.h.0,
         },
-        starting_again::Rebased::Refused(why) => {
-            let refusal = refused(why);
-            ZgBase {
-                refusal,
-                darts: sizes.darts,
-                h: sizes.h.0,
-            }
+        Err(why) => ZgBase {
+            refusal: ZgRefusal::from(why),
+            darts: sizes.darts,
+            h: sizes.h.0,
         },
     }
 }

@@ -6,8 +6,6 @@ use Rattle.maps.specs.Folded.{marks, level, Folded, base, lambda_of, delta_of, o
 use Rattle.maps.specs.Check.{check_kernel}
 use Rattle.maps.specs.CheckPyramid.{left_behind, table_at}
 use Rattle.maps.specs.Join.{joinΛ, joined_row}
-use Rattle.answers.specs.Pyramid.{pyramid}
-use Rattle.answers.specs.declared.AtLevel.{AtLevel}
 use Rattle.climbing.specs.Climb.{climbs, Climbed}
 
 -- 9 and 10 of the joined kernel, on level l
@@ -25,15 +23,10 @@ climb_joined_leaves f l = left_behind (table_at f f.h) (table_at f) f.rows (clim
 abbrev pub joined_of : Folded → ℕ → Folded
 joined_of f l = of_parts f.n f.N (f.h - 1) f.rows (listed (joinΛ l (lambda_of f)) f.N) f.delta
 
--- the test of the joined kernel, on the table that holds its level
-module _ (at : AtLevel) (lambda delta table : List ℕ) where
-  abbrev pub over : List ℕ → Folded
-  over rows = pyramid at.sizes rows lambda delta
+-- what the test of the joined kernel asks: two kernels from level l on, and that a climb has left level l in the table
+abbrev pub Reached : Folded → ℕ → List ℕ → Type 0
+Reached f l table = (suc l < f.h) × ((head : List ℕ) × ((next : List ℕ) × Climbed f l head next table))
 
-  -- what it asks: two kernels from the level on, and a base from which the level was climbed
-  abbrev pub Reached : Type 0
-  Reached = (suc at.level.0 < at.sizes.h.0) × ((rows : List ℕ) × ((head : List ℕ) × ((next : List ℕ) × Climbed (over rows) at.level.0 head next table)))
-
-  -- what it answers: the joined kernel's verdict, if all kernels are accepted; 10 never comes then
-  abbrev pub Tells : Verdict → Type 0
-  Tells v = (rows head next : List ℕ) → Climbed (over rows) at.level.0 head next table → climbs (over rows) ≡ accepted → v ≡ joined_verdict (over rows) at.level.0
+-- what it answers: the joined kernel's verdict, if all kernels are accepted; 10 never comes then
+abbrev pub Tells : Folded → ℕ → Verdict → Type 0
+Tells f l v = climbs f ≡ accepted → v ≡ joined_verdict f l

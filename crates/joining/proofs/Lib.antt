@@ -1,2 +1,1 @@
-mod Pairs
 mod Whole

@@ -1,17 +1,28 @@
 -- The darts of a kernel: their marks, and how they are strung. Assumes nothing.
 use mathlib.Core.Path.{◌≡◌, refl, sym, ap, ◌∙◌}
-use mathlib.Core.Bool.{Bool, true, false, cond, ◌&&◌}
+use mathlib.Core.Bool.{Bool, true, false, true≢false, cond, ◌&&◌, not}
 use mathlib.Core.List.{List}
 use Prim.Native.Nat.{ℕ, ◌+◌, ◌≤◌, ◌<◌}
 use native.Mathlib.Omega.{arith}
 use lib.ListN.{length, set}
 use lib.Seq.{get_or-set_same, get_or-set_other}
 use lib.Dec.{eqb}
-use borrow.Author.Tests.{eqb-true, eqb-false, eq-eqb, ne_eqb}
+use borrow.Author.Tests.{eqb-true, eqb-false, eq-eqb, ne_eqb, not-true}
 use Rattle.maps.specs.Mark.{is_mark, stay}
 use Rattle.maps.specs.Table.{each}
 use Rattle.laws.proofs.Marks.{stay_none}
 use Rattle.kernels.specs.Strings.{kernel_row, First, Linked, Marks}
+
+-- two marks or levels that were compared: the same, and not
+pub same_is : {x : Bool} (a b : ℕ) → x ≡ not (eqb a b) → x ≡ false → a ≡ b
+same_is a b e f = eqb-true a b (go (eqb a b) (sym e ∙ f))
+  where
+    go : (y : Bool) → not y ≡ false → y ≡ true
+    go true q = refl
+    go false q = absurd (true≢false q)
+
+pub not_same : {x : Bool} (a b : ℕ) → x ≡ not (eqb a b) → x ≡ true → a ≡ b → ⊥
+not_same a b e f = eqb-false a b (not-true (eqb a b) (sym e ∙ f))
 
 -- a dart has mark m in kernel l where Λ is l and Δ is m
 pub row_is : (lambda delta : List ℕ) (l d m : ℕ) → m < stay → eqb (kernel_row lambda delta l d) m ≡ (eqb (each lambda d) l && eqb (each delta d) m)

@@ -11,15 +11,19 @@ use Rattle.maps.specs.Check.{check_kernel}
 use Rattle.maps.specs.Explicit.{present, There, Sound}
 use Rattle.answers.specs.Rows.{Rows}
 use Rattle.kernels.specs.declared.Kernel.{Kernel as Declared}
-use Rattle.kernels.specs.Strings.{kernel_row}
+use Rattle.kernels.specs.Strings.{kernel_row, Strung}
 
 -- the level that a kernel is lent, as a map
 abbrev pub map_of : Declared → List ℕ → Involutions
 map_of kernel table = entry kernel.darts table
 
 -- its mark row, from Λ and Δ
-abbrev pub row_of : Declared → List ℕ → List ℕ → ℕ → ℕ
-row_of kernel lambda delta = kernel_row lambda delta kernel.level.0
+abbrev pub row_of : Declared → ℕ → ℕ
+row_of kernel = kernel_row kernel.lambda.now kernel.delta.now kernel.level.0
+
+-- its darts are strung
+abbrev pub StrungIn : Declared → Type 0
+StrungIn kernel = Strung kernel.n.0 kernel.darts kernel.level.0 kernel.first kernel.lambda.now kernel.delta.now kernel.next.now
 
 -- the entry of row i and dart d lies in the table, and its place is small
 pub record Place (N : ℕ) (table : List ℕ) (i d : ℕ) : Type 0 where
@@ -39,6 +43,13 @@ pub record Ready (n N : ℕ) (mark : ℕ → ℕ) (table : List ℕ) : Type 0 wh
   pub tested : Tested n N mark table
   pub kernel : Kernel (entry N table) n (There N (present N table)) mark
 
+-- the same of the row of a kernel
+abbrev pub TestedOn : Declared → List ℕ → Type 0
+TestedOn kernel = Tested kernel.n.0 kernel.darts (row_of kernel)
+
+abbrev pub ReadyOn : Declared → List ℕ → Type 0
+ReadyOn kernel = Ready kernel.n.0 kernel.darts (row_of kernel)
+
 -- what following the marks asks: from a dart marked every involution leads to a dart, and the one that passes it to a dart of the same mark
 pub record Followed (n N : ℕ) (mark : ℕ → ℕ) (table : List ℕ) : Type 0 where
   pub shape : Rows n N table
@@ -50,16 +61,16 @@ abbrev pub left : ℕ → ℕ → (ℕ → ℕ) → List ℕ → ℕ → Bool
 left n N mark table d = present N table d && not (is_mark n (mark d))
 
 -- where following the marks of a kernel leads from dart d by row i
-abbrev pub past_marks : Declared → List ℕ → List ℕ → List ℕ → ℕ → ℕ → ℕ
-past_marks kernel lambda delta table = go_on (map_of kernel table) kernel.n.0 (row_of kernel lambda delta) kernel.darts
+abbrev pub past_marks : Declared → List ℕ → ℕ → ℕ → ℕ
+past_marks kernel table = go_on (map_of kernel table) kernel.n.0 (row_of kernel) kernel.darts
 
 -- and the turns that it takes
-abbrev pub turns_past : Declared → List ℕ → List ℕ → List ℕ → ℕ → ℕ → ℕ
-turns_past kernel lambda delta table = turns_from (map_of kernel table) kernel.n.0 (row_of kernel lambda delta) kernel.darts
+abbrev pub turns_past : Declared → List ℕ → ℕ → ℕ → ℕ
+turns_past kernel table = turns_from (map_of kernel table) kernel.n.0 (row_of kernel) kernel.darts
 
 -- involution j, which is not the first row of this mark, leads from dart d to one that is not in the kernel with the mark
-abbrev pub leaves_by : Declared → List ℕ → List ℕ → List ℕ → ℕ → ℕ → ℕ → Bool
-leaves_by kernel lambda delta table mark d j = not (eqb j (between mark).0) && not (eqb (row_of kernel lambda delta (map_of kernel table j d)) mark)
+abbrev pub leaves_by : Declared → List ℕ → ℕ → ℕ → ℕ → Bool
+leaves_by kernel table mark d j = not (eqb j (between mark).0) && not (eqb (row_of kernel (map_of kernel table j d)) mark)
 
 -- an entry below N of a dart that is not marked leads on past the marks; every other entry stays
 unfoldable pub relinked : ℕ → ℕ → (ℕ → ℕ) → List ℕ → ℕ → ℕ → ℕ
@@ -82,8 +93,8 @@ pub record TableIs (N : ℕ) (f : ℕ → ℕ → ℕ) (before after : List ℕ)
   pub rows : (t d : ℕ) → d < N → entry N after t d ≡ f t d
 
 -- the table after, with the links of the survivors past the marks of a kernel
-abbrev pub LinksPast : Declared → List ℕ → List ℕ → List ℕ → List ℕ → Type 0
-LinksPast kernel lambda delta before after = TableIs kernel.darts (relinked kernel.n.0 kernel.darts (row_of kernel lambda delta) before) before after
+abbrev pub LinksPast : Declared → List ℕ → List ℕ → Type 0
+LinksPast kernel before after = TableIs kernel.darts (relinked kernel.n.0 kernel.darts (row_of kernel) before) before after
 
 -- the table after, with 65,535 at the entries that pass the test; the others are as before
 abbrev pub Cleared : ℕ → (ℕ → ℕ → Bool) → List ℕ → List ℕ → Type 0

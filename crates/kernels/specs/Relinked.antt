@@ -6,8 +6,7 @@ use Rattle.maps.specs.Removal.{marked, turns_from, removal}
 use Rattle.maps.specs.Table.{entry}
 use Rattle.maps.specs.Explicit.{present, There}
 use Rattle.kernels.specs.declared.Kernel.{Kernel as Declared}
-use Rattle.kernels.specs.Strings.{kernel_row, Strung}
-use Rattle.kernels.specs.Ready.{Ready, relinked, first_of_link}
+use Rattle.kernels.specs.Ready.{row_of, StrungIn, ReadyOn, relinked, first_of_link}
 
 -- each entry is as before or leads on past the marks, and does so if it led to a dart before d
 pub record Relinking (n N : ℕ) (mark : ℕ → ℕ) (before after : List ℕ) (d : ℕ) : Type 0 where
@@ -42,15 +41,12 @@ module _ (n N : ℕ) (mark : ℕ → ℕ) (before : List ℕ) where
   abbrev pub turns_to : ℕ → ℕ
   turns_to d = sum (λ x. cond (begins x) (turns_at x) 0) d
 
-module _ (kernel : Declared) (lambda delta next : List ℕ) where
-  abbrev row : ℕ → ℕ
-  row = kernel_row lambda delta kernel.level.0
-
+module _ (kernel : Declared) where
   -- the kernel of a table is relinked up to dart d of its string, in another table
   pub record Onward (before after : List ℕ) (d : ℕ) : Type 0 where
-    pub ready : Ready kernel.n.0 kernel.darts row before
-    pub strung : Strung kernel.n.0 kernel.darts kernel.level.0 kernel.first lambda delta next
-    pub to : RelinkTo kernel.n.0 kernel.darts row before after d
+    pub ready : ReadyOn kernel before
+    pub strung : StrungIn kernel
+    pub to : RelinkTo kernel.n.0 kernel.darts (row_of kernel) before after d
 
   -- that is so of some table
   abbrev pub Midway : List ℕ → ℕ → Type 0
@@ -59,4 +55,4 @@ module _ (kernel : Declared) (lambda delta next : List ℕ) where
   -- it is relinked from dart d on up to dart e, with so many turns, whichever table it was
   abbrev pub Relinks : List ℕ → ℕ → List ℕ → ℕ → ℕ → Type 0
   Relinks after d after-e e turns =
-      (before : List ℕ) → Onward before after d → Onward before after-e e × (turns_to kernel.n.0 kernel.darts row before e ≡ turns_to kernel.n.0 kernel.darts row before d + turns)
+      (before : List ℕ) → Onward before after d → Onward before after-e e × (turns_to kernel.n.0 kernel.darts (row_of kernel) before e ≡ turns_to kernel.n.0 kernel.darts (row_of kernel) before d + turns)

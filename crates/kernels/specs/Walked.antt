@@ -5,6 +5,7 @@ use Rattle.maps.specs.Mark.{is_mark, between, has_beyond}
 use Rattle.maps.specs.Table.{entry, each}
 use Rattle.maps.specs.Check.{differs, at9, at10}
 use Rattle.kernels.specs.Strings.{kernel_row, First, Marks}
+use Rattle.kernels.specs.declared.Kernel.{Kernel as Declared}
 use Rattle.kernels.specs.Ready.{Tested}
 
 -- the k-th row of a map, from 0 on, without the first row of mark m
@@ -35,6 +36,10 @@ module _ (n l : ℕ) (lambda delta next table : List ℕ) where
 
   abbrev pub Ten : ℕ → Type 0
   Ten = Walk n (length lambda) l lambda delta next table (ten n (length lambda) l (kernel_row lambda delta l) table)
+
+-- the first of these, for a kernel and n rows
+abbrev pub NineOf : ℕ → Declared → List ℕ → ℕ → Type 0
+NineOf n kernel = Nine n kernel.level.0 kernel.lambda.now kernel.delta.now kernel.next.now
 
 -- every row but the first of mark m leads from dart d into kernel l with this mark
 abbrev pub Together : ℕ → ℕ → List ℕ → List ℕ → List ℕ → ℕ → ℕ → Type 0

@@ -9,39 +9,33 @@ mod testing; // testing.rt: numbers 9 and 10 of a kernel, with the place
 ghost use Rattle.std.specs.Prelude.{◌≡◌};
 ghost use Rattle.maps.specs.Check.{check_kernel};
 ghost use Rattle.answers.specs.Numbers.{verdict_of};
-ghost use Rattle.kernels.specs.Strings.{Strung};
-ghost use Rattle.kernels.specs.Ready.{map_of, row_of, Tested, step_leaves};
+ghost use Rattle.kernels.specs.Ready.{map_of, row_of, TestedOn, StrungIn, step_leaves};
 
-use answers::{Check, Dim, Level, ROOM};
-pub use removing::remove;
-pub use strings::{HEADS, link};
-pub use testing::{tested, whole};
+use answers::{Dim, Level, ROOM, Refusal};
+pub use strings::{HEADS, Strings, at, put};
 
-// A kernel of a map of so many darts and n: the first dart of its string, and its level. The darts are narrow and come first: it is passed in one register then, and N is read with no shift.
+// One kernel of a map: n and N, its level, Λ and Δ of all darts, and its darts strung: the first of them, and the next after each.
 #[derive(Clone, Copy)]
-pub struct Kernel {
-    pub darts: u16,
+pub struct Kernel<'a> {
     pub n: Dim,
-    pub first: u16,
+    pub darts: u16,
     pub level: Level,
+    pub first: u16,
+    pub lambda: &'a [u8],
+    pub delta: &'a [u8],
+    pub next: &'a [u16; ROOM],
 }
 
-// The kernel: tested, and removed where it is accepted.
-pub fn step(
-    kernel: Kernel,
-    lambda: &[u8],
-    delta: &[u8],
-    next: &[u16; ROOM],
-    table: &mut [u16],
-) -> Check
-    requires tested { Tested kernel.n.0 kernel.darts (row_of kernel lambda.now delta.now) table.old }
-    requires strung { Strung kernel.n.0 kernel.darts kernel.level.0 kernel.first lambda.now delta.now next.now }
-    ensures verdict { verdict_of result ≡ check_kernel (map_of kernel table.old) kernel.n.0 kernel.darts (row_of kernel lambda.now delta.now) kernel.level.0 }
-    ensures table_left { table.new ≡ step_leaves kernel.n.0 kernel.darts kernel.level.0 (row_of kernel lambda.now delta.now) table.old }
-{
-    if let Check::Refused(r) = tested(kernel, lambda, delta, next, table) {
-        return Check::Refused(r);
+impl Kernel<'_> {
+    // The kernel: tested, and removed where it is accepted.
+    pub fn step(&self, table: &mut [u16]) -> Result<(), Refusal>
+        requires tested { TestedOn self.now table.old }
+        requires strung { StrungIn self.now }
+        ensures verdict { verdict_of result ≡ check_kernel (map_of self.now table.old) self.now.n.0 self.now.darts (row_of self.now) self.now.level.0 }
+        ensures table_left { table.new ≡ step_leaves self.now.n.0 self.now.darts self.now.level.0 (row_of self.now) table.old }
+    {
+        self.tested(table)?;
+        self.remove(table);
+        Ok(())
     }
-    remove(kernel, lambda, delta, next, table);
-    Check::Accepted
 }

@@ -4,30 +4,27 @@ use mathlib.Core.Bool.{Bool, true, false, cond, ◌&&◌, ◌||◌, not}
 use mathlib.Core.List.{List}
 use Prim.Native.Nat.{ℕ, zero, suc, ◌*◌}
 use lib.Dec.{eqb, leb, ltb}
-use lib.ListN.{length}
+use lib.ListN.{length, replicate, length-replicate, get_or-replicate}
 use borrow.Author.Tests.{eqb-true}
-use Rattle.maps.specs.Verdict.{Verdict, accepted, refused, when, if_accepted, ◌then◌, scan}
+use Rattle.maps.specs.Verdict.{Verdict, accepted, refused, when, ◌then◌, scan}
 use Rattle.maps.specs.Sizes.{number1, number2, number3, sizes, number4, number11, has_length}
 use Rattle.maps.specs.Table.{each, listed, absent}
 use Rattle.maps.specs.Folded.{refused_marks, Folded}
 use Rattle.maps.specs.MarksBack.{at_marks8}
 use Rattle.maps.specs.Unfold.{at_walk, unfold_lent, unfold_total, unfold_since, unfold_leaves}
-use Rattle.laws.proofs.Verdicts.{not_refused, then_accepted, then_three, and_both}
+use Rattle.laws.proofs.Verdicts.{then_accepted, then_three, and_both}
 use Rattle.laws.proofs.Sizes.{lent_sized}
-use Rattle.answers.specs.Numbers.{refusal_of}
+use Rattle.laws.proofs.Tables.{listed_of}
+use Rattle.answers.specs.Numbers.{refusal_of, verdict_of}
 use Rattle.answers.specs.Lent.{lent_of, asked_of}
 use Rattle.answers.specs.declared.Refusal.{Refusal}
 use Rattle.answers.proofs.Refusals.{refusal_refuses, refused_then, refused_first, refused_second}
 use Rattle.questions.specs.Lent.{Lent}
 use Rattle.questions.proofs.Questions.{pyramid_fits, asked_lent}
-use Rattle.filling.specs.declared.Stop.{Stop}
-use Rattle.filling.specs.declared.Stop.TheVariants.{Nowhere, Long, Strays, NoPass}
-use Rattle.one_level.specs.declared.Total.{Total}
-use Rattle.one_level.specs.declared.Total.TheVariants.{Counted, Refused}
-use Rattle.one_level.specs.declared.Unfolding.{Unfolding}
-use Rattle.filling.specs.declared.Walks.{Walks}
-use Rattle.one_level.specs.Answers.{check_of, total_of, latest_of}
-use Rattle.filling.specs.Walks.{stop_of, walks_verdict, Leaves}
+use Rattle.std.specs.Prelude.{Result, Ok, Err}
+use Rattle.std.specs.Result.{is_err}
+use Rattle.filling.specs.declared.Unfolding.{Unfolding}
+use Rattle.filling.specs.Walks.{total_of, latest_of, walks_verdict, Leaves}
 
 -- 5, 14 and 15: after these the table is 65,535 throughout
 abbrev spoils : Verdict → Bool
@@ -59,12 +56,9 @@ unfolding number4 number11
 asked_keeps n N h fit l =
     then_keeps (lent_of n N h fit) (number11 h l 0 0) (then_keeps (sizes n N h) (number4 fit) (sizes_keep n N h) (when_keeps (not fit) 4 0 0 0 refl)) (when_keeps (ltb h l) 11 l 0 0 refl)
 
--- a walk's refusal spoils it
-stop_spoils : (l : ℕ) (s : Stop) (r : Refusal) → refusal_of r ≡ stop_of l s → spoils (refusal_of r) ≡ true
-stop_spoils l Nowhere r e = absurd (not_refused (sym (refusal_refuses r).is ∙ e))
-stop_spoils l (Long i d) r e = ap spoils e
-stop_spoils l (Strays i d) r e = ap spoils e
-stop_spoils l (NoPass i d) r e = ap spoils e
+-- a table of 65,535
+blank : (m : ℕ) → replicate m absent ≡ listed (λ x. absent) m
+blank m = listed_of (λ x. absent) m (replicate m absent) (length-replicate m absent) (λ x lt. get_or-replicate m x absent 0 lt)
 
 and_four : (r s t u : Bool) → (r && (s && (t && u))) ≡ ((r && (s && t)) && u)
 and_four true true t u = refl
@@ -122,22 +116,21 @@ module _ (f : Folded) (l : ℕ) (table : List ℕ) where
         (rw (ap spoils e ∙ scan_keeps N (at_marks8 n h (each lambda) (each delta) l) (λ x. when_keeps (refused_marks n h (each lambda x) (each delta x)) 8 l 0 x refl)))
 
     -- after accepted marks the walks decide
-    module _ (fine : accepted ≡ marks) {w : Walks} {after : List ℕ} (left : Leaves f l w after) where
+    module _ (fine : accepted ≡ marks) where
       decides : answer ≡ walks
       decides = unfold_is ∙ (rw (← ok, ← fine))
 
-      -- what the walks' answer says
-      abbrev Answered : Total → Type 0
-      Answered t = (check_of t ≡ stop_of l w.stop) × ((total_of t ≡ if_accepted (stop_of l w.stop) w.total 0) × (latest_of t ≡ if_accepted (stop_of l w.stop) w.since.0 0))
-
-      pub unfold_counted : {t : Total} {u : Unfolding} → t ≡ Counted u → Answered t → Gives accepted u.count u.since.0 after
+      pub unfold_counted : {after : List ℕ} (w : Result Unfolding Refusal) → Leaves f l w after → false ≡ is_err w → Gives (verdict_of w) (total_of w) (latest_of w) after
       unfolding unfold_total unfold_since unfold_leaves at_walk
-      unfold_counted {t} {u} e q =
-          let g : Answered (Counted u) = rw e at q in
-          let all : walks ≡ accepted = sym (g.0 ∙ left.first) in
-          (rw (decides, all), (rw (decides, all) ((rw (← g.0) at g.1.0) ∙ left.total all), (rw (decides, all) ((rw (← g.0) at g.1.1) ∙ left.since all), rw (decides, all) (left.level all))))
+      unfold_counted (Ok u) left e =
+          let all : walks ≡ accepted = sym left.first in
+          (rw (decides, all), (rw (decides, all) (left.total all), (rw (decides, all) (left.since all), rw (decides, all) (left.level all))))
+      unfold_counted (Err r) left e = absurd cc
 
-      pub unfold_refused : {t : Total} {r : Refusal} → t ≡ Refused r → Answered t → length table ≡ suc n * N → Gives (refusal_of r) 0 0 (listed (λ x. absent) (length after))
-      unfold_refused {t} {r} e q size =
-          let g : refusal_of r ≡ stop_of l w.stop = rw e at q.0 in
-          refuses r (g ∙ left.first ∙ sym decides) (rw (stop_spoils l w.stop r g) (ap (listed (λ x. absent)) (left.size ∙ sym size)))
+      -- a walk's refusal spoils the table
+      pub unfold_refused : {after : List ℕ} (w : Result Unfolding Refusal) → Leaves f l w after → true ≡ is_err w → length table ≡ suc n * N → {cleared : List ℕ} → cleared ≡ replicate (length after) absent → Gives (verdict_of w) (total_of w) (latest_of w) cleared
+      unfold_refused (Ok u) left e size q = absurd cc
+      unfold_refused {after} (Err r) left e size q =
+          let x = refusal_refuses r in
+          let spoilt : spoils (refusal_of r) ≡ true = rw x.is (left.stops x.number x.level x.involution x.dart (sym left.first ∙ x.is)) in
+          refuses r (left.first ∙ sym decides) (rw spoilt (q ∙ blank (length after) ∙ ap (listed (λ x. absent)) (left.size ∙ sym size)))

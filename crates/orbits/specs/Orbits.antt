@@ -4,6 +4,7 @@ use Rattle.maps.specs.Map.{Involutions}
 use Rattle.maps.specs.Orbit.{Orbit}
 use Rattle.maps.specs.Table.{entry}
 use Rattle.answers.specs.Rows.{Rows}
+use Rattle.answers.specs.declared.Dim.{Dim}
 use Rattle.orbits.specs.Choices.{uses}
 use Rattle.orbits.specs.Search.{State, has, Stored, pushed, spread, turns}
 use Rattle.orbits.specs.declared.Search.{Search}
@@ -30,6 +31,10 @@ pub record Spreads (from : Search) (choice : ℕ) (table : List ℕ) (s : State)
   pub dart : from.dart < from.darts
   pub inside : (j : ℕ) → j ≤ from.n.0 → uses choice j ≡ true → entry from.darts table j from.dart < from.darts
   pub stored : Stored from.darts s
+
+-- a search with nothing in the queue
+abbrev pub begun : Dim → ℕ → ℕ → Search
+begun n darts dart = record { n = n; darts = darts; dart = dart; tail = 0 }
 
 -- the same search with another end of the queue
 abbrev pub ending_at : Search → ℕ → Search

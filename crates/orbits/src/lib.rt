@@ -6,7 +6,7 @@ ghost use Rattle.maps.specs.Parts.{besides};
 ghost use Rattle.maps.specs.Table.{entry};
 ghost use Rattle.orbits.specs.Choices.{uses as uses_of, chosen};
 ghost use Rattle.orbits.specs.Search.{has, state, held, Stored, pushed};
-ghost use Rattle.orbits.specs.Orbits.{Ready, Spreads, ending_at, pushed_by, spread_by, Finds};
+ghost use Rattle.orbits.specs.Orbits.{Ready, Spreads, begun, ending_at, pushed_by, spread_by, Finds};
 
 use answers::{Dim, ROOM};
 
@@ -37,7 +37,7 @@ pub fn all_but_two(row: Dim) -> u8
     ALL_ROWS - (3u8 << row.0)
 }
 
-// Puts dart d in the queue, unless it is reached already; the queue's new end.
+// Puts dart d in the queue, unless it is reached already; the queue's new end. The set and the queue stand apart: a caller searches into two sets by one queue.
 fn push(d: u16, reached: &mut [bool; ROOM], queue: &mut [u16; ROOM], tail: usize) -> usize
     requires { (d < 4096) × (has reached.old d ≡ false → tail < 4096) }
     ensures { held reached.new queue.new result ≡ pushed (held reached.old queue.old tail) d }
@@ -60,16 +60,24 @@ pub struct Search {
     pub tail: usize,
 }
 
-// The same search with another end of the queue.
-fn ending(from: Search, tail: usize) -> Search
-    ensures { result ≡ ending_at from tail }
-{
-    let n = from.n;
-    Search {
-        n,
-        darts: from.darts,
-        dart: from.dart,
-        tail,
+impl Search {
+    // A search that begins at a dart, with nothing in the queue.
+    pub fn begin(n: Dim, darts: u16, dart: u16) -> Search
+        ensures { result ≡ begun n darts dart }
+    {
+        Search {
+            n,
+            darts,
+            dart,
+            tail: 0,
+        }
+    }
+
+    // The same search with another end of the queue.
+    fn ending(self, tail: usize) -> Search
+        ensures { result ≡ ending_at self tail }
+    {
+        Search { tail, ..self }
     }
 }
 
@@ -106,19 +114,19 @@ fn push_neighbours(
 {
     let n = from.n.0;
     let zero = push_by(from, Dim(0), choice, table, reached, queue);
-    let one = push_by(ending(from, zero), Dim(1), choice, table, reached, queue);
+    let one = push_by(from.ending(zero), Dim(1), choice, table, reached, queue);
     if n < 2 {
         return one;
     }
-    let two = push_by(ending(from, one), Dim(2), choice, table, reached, queue);
+    let two = push_by(from.ending(one), Dim(2), choice, table, reached, queue);
     if n < 3 {
         return two;
     }
-    let three = push_by(ending(from, two), Dim(3), choice, table, reached, queue);
+    let three = push_by(from.ending(two), Dim(3), choice, table, reached, queue);
     if n < 4 {
         return three;
     }
-    push_by(ending(from, three), Dim(4), choice, table, reached, queue)
+    push_by(from.ending(three), Dim(4), choice, table, reached, queue)
 }
 
 // Adds the orbit of a dart to the set of darts reached, which no row used leads out of; the queue's new end. From the old one on stand the darts added.
@@ -134,23 +142,20 @@ pub fn orbit(
     requires le_n { 1 ≤ search.n.0 }
     ensures { Finds search table.now (chosen choices.now) (held reached.old queue.old search.tail) (held reached.new queue.new result) }
 {
-    let n = search.n;
-    let darts = search.darts;
     let mut head = search.tail;
     let mut tail = push(search.dart, reached, queue, head);
+    // By index: the queue grows while it is read.
     while head < tail {
         let dart = queue[head];
         let place = dart as usize;
         let choice = choices[place];
         let from = Search {
-            n,
-            darts,
             dart,
             tail,
+            ..search
         };
-        let next = push_neighbours(from, choice, table, reached, queue);
-        tail = next;
-        head = head + 1;
+        tail = push_neighbours(from, choice, table, reached, queue);
+        head += 1;
     }
     tail
 }

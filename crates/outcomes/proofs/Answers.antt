@@ -12,36 +12,22 @@ use Rattle.answers.specs.declared.Sizes.{Sizes}
 use Rattle.answers.specs.declared.Refusal.{Refusal}
 use Rattle.answers.specs.declared.Refusal.TheVariants.{Dimension, Darts, Height, Length, Strays, NotTwice, NotCommuting, Marks, NotWhole, NotRemovable, NoLevel, NoDart, NoInvolution, NoPass, TooLong, EndsEarly, OtherTag, WrongLength, BytesAfter, Full, TwoToOne, NoRows, Contracted}
 use Rattle.answers.specs.declared.Numbers.{Numbers}
-use Rattle.answers.specs.declared.Check.{Check}
-use Rattle.answers.specs.declared.Check.TheVariants.{Accepted, Refused}
+use Rattle.std.specs.Prelude.{Result, Ok, Err}
 use Rattle.by_levels.specs.Answers.{value_of}
-use Rattle.by_levels.specs.declared.Answered.{Answered}
-use Rattle.by_levels.specs.declared.Answered.TheVariants.{Found, Refused as Unread}
+use Rattle.by_levels.specs.declared.Neighbour.{Neighbour}
 use Rattle.reading.specs.Answers.{value_of as link_of, stands_since}
-use Rattle.one_level.specs.Answers.{check_of, total_of, latest_of}
-use Rattle.reading.specs.declared.Reading.{Reading as Linked}
-use Rattle.reading.specs.declared.Reading.TheVariants.{Found as Stands, Refused as Unlinked}
-use Rattle.one_level.specs.declared.Total.{Total}
-use Rattle.one_level.specs.declared.Total.TheVariants.{Counted, Refused as Uncounted}
-use Rattle.survivor_words.specs.Answers.{verdict_of_survivors, count_of_survivors}
-use Rattle.survivor_words.specs.declared.counted.Survivors.{Survivors}
-use Rattle.survivor_words.specs.declared.counted.Survivors.TheVariants.{Counted as Ones, Refused as NoWords}
-use Rattle.checking.specs.Answers.{verdict_by, height_of}
-use Rattle.checking.specs.declared.pyramid.Height.{Height as Heights}
-use Rattle.checking.specs.declared.pyramid.Height.TheVariants.{Now, Refused as Kept}
+use Rattle.reading.specs.declared.Link.{Link}
+use Rattle.one_level.specs.Answers.{total_of, latest_of}
+use Rattle.filling.specs.declared.Unfolding.{Unfolding}
+use Rattle.survivor_words.specs.Answers.{count_of_survivors}
+use Rattle.checking.specs.Answers.{height_of}
 use Rattle.taking.specs.Answers.{Outcome, saying, taken_of}
-use Rattle.taking.specs.declared.Taken.{Taken}
-use Rattle.taking.specs.declared.Taken.TheVariants.{Record, Refused as NotTaken}
 use Rattle.writing.specs.Answers.{Outcome as Writing, written_of}
-use Rattle.writing.specs.declared.Written.{Written}
-use Rattle.writing.specs.declared.Written.TheVariants.{Bytes, Refused as NotWritten}
 use Rattle.maps.specs.Decimation.{double}
 use Rattle.decimation.specs.Answers.{Outcome as Shrinking, factor_of}
 use Rattle.decimation.specs.declared.Factor.{Factor}
-use Rattle.decimation.specs.declared.Factor.TheVariants.{By, Empty, Refused as NotAnswered}
+use Rattle.decimation.specs.declared.Factor.TheVariants.{By, Empty}
 use Rattle.starting_again.specs.Answers.{Outcome as Rebasing, rebased_of}
-use Rattle.starting_again.specs.declared.Rebased.{Rebased}
-use Rattle.starting_again.specs.declared.Rebased.TheVariants.{Base, Refused as NotRebased}
 
 -- a level
 abbrev pub level : ℕ → Level
@@ -88,105 +74,109 @@ refusal_told from holding is (TwoToOne d) = is 21 0 1 d
 refusal_told from holding is NoRows = is 22 0 0 0
 refusal_told from holding is (Contracted d) = is 23 0 0 d
 
--- one value where accepted, else one that holds the refusal
-abbrev pub from_verdict : {A : Type 0} → A → (Refusal → A) → Verdict → A
-from_verdict value holding accepted = value
-from_verdict value holding (refused k l i d) = holding (refusal_from k l i d)
+-- the answer with a value where accepted, else the refusal
+abbrev pub from_verdict : {A : Type 0} → A → Verdict → Result A Refusal
+from_verdict value accepted = Ok value
+from_verdict value (refused k l i d) = Err (refusal_from k l i d)
+
+-- a refusal is told, whatever the value would have been
+pub verdict_told : {A : Type 0} (value : A) (r : Refusal) → from_verdict value (refusal_of r) ≡ Err r
+verdict_told value r = refusal_told (from_verdict value) Err (λ k l i d. refl) r
 
 -- the answer of a check
-abbrev pub check_from : Verdict → Check
-check_from = from_verdict Accepted Refused
+abbrev pub check_from : Verdict → Result (Unit {0}) Refusal
+check_from = from_verdict tt
 
-pub check_told : (c : Check) → check_from (verdict_of c) ≡ c
-check_told Accepted = refl
-check_told (Refused r) = refusal_told check_from Refused (λ k l i d. refl) r
+pub check_told : (c : Result (Unit {0}) Refusal) → check_from (verdict_of c) ≡ c
+check_told (Ok _) = refl
+check_told (Err r) = verdict_told tt r
 
 -- the answer of a reading by levels
-abbrev pub reading_from : Value → Answered
-reading_from (found neighbour count) = Found (record { dart = neighbour; count = count })
-reading_from (none k l i d) = Unread (refusal_from k l i d)
+abbrev pub reading_from : Value → Result Neighbour Refusal
+reading_from (found neighbour count) = Ok (record { dart = neighbour; count = count })
+reading_from (none k l i d) = Err (refusal_from k l i d)
 
-pub reading_told : (r : Answered) → reading_from (value_of r) ≡ r
-reading_told (Found neighbour) = refl
-reading_told (Unread r) = refusal_told (λ v. reading_from (unless v (none 0 0 0 0))) Unread (λ k l i d. refl) r
+pub reading_told : (r : Result Neighbour Refusal) → reading_from (value_of r) ≡ r
+reading_told (Ok neighbour) = refl
+reading_told (Err r) = refusal_told (λ v. reading_from (unless v (none 0 0 0 0))) Err (λ k l i d. refl) r
 
 -- the answer of a direct reading: the same, and since which level the link stands
-abbrev pub values_of_link : Linked → Value × ℕ
+abbrev pub values_of_link : Result Link Refusal → Value × ℕ
 values_of_link r = (link_of r, stands_since r)
 
-abbrev pub link_from : Value × ℕ → Linked
-link_from (found neighbour count, since) = Stands (record { dart = neighbour; count = count; since = level since })
-link_from (none k l i d, since) = Unlinked (refusal_from k l i d)
+abbrev pub link_from : Value × ℕ → Result Link Refusal
+link_from (found neighbour count, since) = Ok (record { dart = neighbour; count = count; since = level since })
+link_from (none k l i d, since) = Err (refusal_from k l i d)
 
-pub link_told : (r : Linked) → link_from (values_of_link r) ≡ r
-link_told (Stands link) = refl
-link_told (Unlinked r) = refusal_told (λ v. link_from (unless v (none 0 0 0 0), 0)) Unlinked (λ k l i d. refl) r
+pub link_told : (r : Result Link Refusal) → link_from (values_of_link r) ≡ r
+link_told (Ok link) = refl
+link_told (Err r) = refusal_told (λ v. link_from (unless v (none 0 0 0 0), 0)) Err (λ k l i d. refl) r
 
 -- the answer of an unfolding: verdict, total, and since which level all links stand
-abbrev pub values_of_total : Total → Verdict × ℕ × ℕ
-values_of_total t = (check_of t, total_of t, latest_of t)
+abbrev pub values_of_total : Result Unfolding Refusal → Verdict × ℕ × ℕ
+values_of_total t = (verdict_of t, total_of t, latest_of t)
 
-abbrev pub total_from : Verdict × ℕ × ℕ → Total
-total_from x = from_verdict (Counted (record { count = x.1; since = level x.2 })) Uncounted x.0
+abbrev pub total_from : Verdict × ℕ × ℕ → Result Unfolding Refusal
+total_from x = from_verdict (record { count = x.1; since = level x.2 }) x.0
 
-pub total_told : (t : Total) → total_from (values_of_total t) ≡ t
-total_told (Counted all) = refl
-total_told (Uncounted r) = refusal_told (λ v. total_from (v, 0, 0)) Uncounted (λ k l i d. refl) r
+pub total_told : (t : Result Unfolding Refusal) → total_from (values_of_total t) ≡ t
+total_told (Ok all) = refl
+total_told (Err r) = verdict_told _ r
 
 -- the answer of the survivor words: verdict and count
-abbrev pub values_of_survivors : Survivors → Verdict × ℕ
-values_of_survivors s = (verdict_of_survivors s, count_of_survivors s)
+abbrev pub values_of_survivors : Result ℕ Refusal → Verdict × ℕ
+values_of_survivors s = (verdict_of s, count_of_survivors s)
 
-abbrev pub survivors_from : Verdict × ℕ → Survivors
-survivors_from x = from_verdict (Ones x.1) NoWords x.0
+abbrev pub survivors_from : Verdict × ℕ → Result ℕ Refusal
+survivors_from x = from_verdict x.1 x.0
 
-pub survivors_told : (s : Survivors) → survivors_from (values_of_survivors s) ≡ s
-survivors_told (Ones count) = refl
-survivors_told (NoWords r) = refusal_told (from_verdict (Ones 0) NoWords) NoWords (λ k l i d. refl) r
+pub survivors_told : (s : Result ℕ Refusal) → survivors_from (values_of_survivors s) ≡ s
+survivors_told (Ok count) = refl
+survivors_told (Err r) = verdict_told _ r
 
 -- the answer of an add to a pyramid of height h, or of a join in it: verdict and height
-abbrev pub values_of_height : ℕ → Heights → Verdict × ℕ
-values_of_height h x = (verdict_by x, height_of h x)
+abbrev pub values_of_height : ℕ → Result Level Refusal → Verdict × ℕ
+values_of_height h x = (verdict_of x, height_of h x)
 
-abbrev pub height_from : Verdict × ℕ → Heights
-height_from x = from_verdict (Now (level x.1)) Kept x.0
+abbrev pub height_from : Verdict × ℕ → Result Level Refusal
+height_from x = from_verdict (level x.1) x.0
 
-pub height_told : (h : ℕ) (x : Heights) → height_from (values_of_height h x) ≡ x
-height_told h (Now new) = refl
-height_told h (Kept r) = refusal_told (from_verdict (Now (level h)) Kept) Kept (λ k l i d. refl) r
+pub height_told : (h : ℕ) (x : Result Level Refusal) → height_from (values_of_height h x) ≡ x
+height_told h (Ok new) = refl
+height_told h (Err r) = verdict_told _ r
 
 -- the answer of taking a record
-abbrev pub taken_from : Outcome → Taken
-taken_from x = from_verdict (Record (record { n = dimension x.dimension; h = level x.height; darts = x.darts })) NotTaken x.verdict
+abbrev pub taken_from : Outcome → Result Sizes Refusal
+taken_from x = from_verdict (record { n = dimension x.dimension; h = level x.height; darts = x.darts }) x.verdict
 
-pub taken_told : (t : Taken) → taken_from (taken_of t) ≡ t
-taken_told (Record sizes) = refl
-taken_told (NotTaken r) = refusal_told (λ v. taken_from (saying v 0 0 0)) NotTaken (λ k l i d. refl) r
+pub taken_told : (t : Result Sizes Refusal) → taken_from (taken_of t) ≡ t
+taken_told (Ok sizes) = refl
+taken_told (Err r) = refusal_told (λ v. taken_from (saying v 0 0 0)) Err (λ k l i d. refl) r
 
 -- the answer of writing a record
-abbrev pub written_from : Writing → Written
-written_from x = from_verdict (Bytes x.bytes) NotWritten x.verdict
+abbrev pub written_from : Writing → Result ℕ Refusal
+written_from x = from_verdict x.bytes x.verdict
 
-pub written_told : (w : Written) → written_from (written_of w) ≡ w
-written_told (Bytes length) = refl
-written_told (NotWritten r) = refusal_told (λ v. written_from (record { verdict = v; bytes = 0 })) NotWritten (λ k l i d. refl) r
+pub written_told : (w : Result ℕ Refusal) → written_from (written_of w) ≡ w
+written_told (Ok length) = refl
+written_told (Err r) = verdict_told _ r
 
 -- the answer of a decimation
-abbrev pub factor_from : Shrinking → Factor
-factor_from x = from_verdict (cond (eqb x.empty 0) (By x.factor) Empty) NotAnswered x.verdict
+abbrev pub factor_from : Shrinking → Result Factor Refusal
+factor_from x = from_verdict (cond (eqb x.empty 0) (By x.factor) Empty) x.verdict
 
-pub factor_told : (f : Factor) → factor_from (factor_of f) ≡ f
-factor_told (By factor) = refl
-factor_told Empty = refl
-factor_told (NotAnswered r) = refusal_told (λ v. factor_from (record { verdict = v; empty = 0; factor = double 0 })) NotAnswered (λ k l i d. refl) r
+pub factor_told : (f : Result Factor Refusal) → factor_from (factor_of f) ≡ f
+factor_told (Ok (By factor)) = refl
+factor_told (Ok Empty) = refl
+factor_told (Err r) = verdict_told _ r
 
--- the answer of starting again; N and h as given in a refusal
-abbrev pub rebased_from : Rebasing → Rebased
-rebased_from x = from_verdict (Base x.darts (level x.height)) NotRebased x.verdict
+-- the answer of starting again; the sizes as given in a refusal
+abbrev pub rebased_from : Rebasing → Result Sizes Refusal
+rebased_from x = from_verdict (record { n = dimension x.dimension; h = level x.height; darts = x.darts }) x.verdict
 
-pub rebased_told : (sizes : Sizes) (x : Rebased) → rebased_from (rebased_of sizes x) ≡ x
-rebased_told sizes (Base darts height) = refl
-rebased_told sizes (NotRebased r) = refusal_told (λ v. rebased_from (record { verdict = v; darts = sizes.darts; height = sizes.h.0 })) NotRebased (λ k l i d. refl) r
+pub rebased_told : (sizes : Sizes) (x : Result Sizes Refusal) → rebased_from (rebased_of sizes x) ≡ x
+rebased_told sizes (Ok new) = refl
+rebased_told sizes (Err r) = verdict_told _ r
 
 -- the four numbers of a refusal
 abbrev pub numbers_from : Verdict → Numbers

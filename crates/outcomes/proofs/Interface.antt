@@ -4,15 +4,15 @@ use contract.Lifetimes.{Lfts}
 use Rattle.maps.specs.Census.{census_lent}
 use Rattle.answers.specs.Pyramid.{given}
 use Rattle.interface.proofs.version.Reads as version-number
-use Rattle.interface.proofs.refusal_as.Reads as refusal-as
-use Rattle.interface.proofs.reading_as.Reads as reading-as
-use Rattle.interface.proofs.link_as.Reads as link-as
-use Rattle.interface.proofs.unfolding_as.Reads as unfolding-as
-use Rattle.interface.proofs.count_as.Reads as count-as
+use Rattle.interface.proofs.ZgRefusalFromResultUnitRefusal.from.Reads as refusal-as
+use Rattle.interface.proofs.ZgReadingFromResultNeighbourRefusal.from.Reads as reading-as
+use Rattle.interface.proofs.ZgLinkFromResultLinkRefusal.from.Reads as link-as
+use Rattle.interface.proofs.ZgUnfoldingFromResultUnfoldingRefusal.from.Reads as unfolding-as
+use Rattle.interface.proofs.ZgCountFromResultU32Refusal.from.Reads as count-as
 use Rattle.interface.proofs.height_as.Reads as height-as
-use Rattle.interface.proofs.record_as.Reads as record-as
-use Rattle.interface.proofs.written_as.Reads as written_as
-use Rattle.interface.proofs.factor_as.Reads as factor-as
+use Rattle.interface.proofs.ZgRecordFromResultSizesRefusal.from.Reads as record-as
+use Rattle.interface.proofs.ZgWrittenFromResultU32Refusal.from.Reads as written_as
+use Rattle.interface.proofs.ZgFactorFromResultFactorRefusal.from.Reads as factor-as
 use Rattle.interface.proofs.base_as.Reads as base-as
 use Rattle.zompelgors.proofs.zg_version.Reads as version
 use Rattle.zompelgors.proofs.zg_check_base.Reads as check-base

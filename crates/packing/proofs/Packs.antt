@@ -1,14 +1,17 @@
 -- Laws of values packed one after the other: none, one more, one passed over, and a whole row. Assumes nothing.
 use mathlib.Core.Path.{◌≡◌, refl, sym, ap, ◌∙◌}
 use mathlib.Core.Bool.{Bool, true, false, cond, true≢false}
-use mathlib.Core.List.{List}
-use Prim.Native.Nat.{ℕ, suc, ◌+◌, ◌*◌, ◌/◌, ◌%◌, ◌≤◌, ◌<◌}
+use mathlib.Core.List.{List, ◌++◌}
+use Prim.Native.Nat.{ℕ, suc, ◌+◌, ◌-◌, ◌*◌, ◌/◌, ◌%◌, ◌≤◌, ◌<◌}
 use native.Mathlib.Nat.{mul-le-mul_left, mul-le-mul_right}
 use native.Mathlib.Omega.{arith}
-use lib.ListN.{length, get_or, set, length-set}
-use lib.Seq.{get_or-set_same, get_or-set_other}
+use lib.ListN.{length, get_or, set, take, drop, replicate, length-set, length-append, length-drop, length-replicate, get_or-replicate}
+use lib.Seq.{get_or-set_same, get_or-set_other, length-take-le}
 use lib.Dec.{eqb, ltb}
 use borrow.Author.Tests.{eqb-true, eqb-false, ltb-true, ltb-false}
+use borrow.Rule.Slice.PartMut.{put_mid}
+use Rattle.std.proofs.Math.ListN.{get_or-append}
+use Rattle.std.proofs.lemmas.List.{get_or-take, get_or-append_right}
 use Rattle.maps.specs.Count.{one, count}
 use Rattle.maps.specs.Table.{entry, each, listed}
 use Rattle.maps.specs.Folded.{survives}
@@ -104,34 +107,34 @@ packs_filled {p} {value} {N} {before} {mid} m filler s e f =
     rw (← e)
     (f ∙ ap (packed (each mid) m filler) s.long ∙ packed_same (each mid) (λ k. value (kth p N k)) m filler (length before) (λ k l. let z : 0 + k ≡ k = omega arith in rw z at (packs_kth s k (omega arith))))
 
--- the places before `from` are as they were, from there to d they hold the filler
-pub record Filled (filler from d : ℕ) (before after : List ℕ) : Type 0 where
-  pub long : length after ≡ length before
-  pub front : (x : ℕ) → x < from → get_or after x 0 ≡ get_or before x 0
-  pub done : (x : ℕ) → from ≤ x → x < d → get_or after x 0 ≡ filler
+-- a row that is filled from a place on
+module _ (filler from : ℕ) (before : List ℕ) (low : from ≤ length before) {part : List ℕ} (is : part ≡ replicate (length (take (length before - from) (drop from before))) filler) where
+  front-long : length (take from before) ≡ from
+  front-long = length-take-le from before low
 
-pub filled_none : (filler from : ℕ) (before : List ℕ) → Filled filler from from before before
-filled_none filler from before = record { long = refl; front = λ x l. refl; done = λ x l k. absurd (omega arith) }
+  many : length (take (length before - from) (drop from before)) ≡ length before - from
+  many = length-take-le (length before - from) (drop from before) (omega (arith, length-drop from before))
 
-pub filled_more : {filler from d : ℕ} {before after : List ℕ} → Filled filler from d before after → from ≤ d → d < length before → Filled filler from (d + 1) before (set after d filler)
-filled_more {filler} {from} {d} {before} {after} s k l = record {
-  long = length-set after d filler ∙ s.long;
-  front = λ x f. get_or-set_other after d x filler 0 (λ z. omega arith) ∙ s.front x f;
-  done = λ x f g. at_place x f g (eqb x d) refl;
-}
-  where
-    at_place : (x : ℕ) → from ≤ x → x < d + 1 → (b : Bool) → eqb x d ≡ b → get_or (set after d filler) x 0 ≡ filler
-    at_place x f g true z = let e : x ≡ d = eqb-true x d z in rw e (get_or-set_same after d filler 0 (omega (arith, s.long)))
-    at_place x f g false z = let ne : x ≡ d → ⊥ = eqb-false x d z in get_or-set_other after d x filler 0 ne ∙ s.done x f (omega arith)
+  part-long : length part ≡ length before - from
+  part-long = ap length is ∙ length-replicate (length (take (length before - from) (drop from before))) filler ∙ many
 
--- all of it
-pub filled_all : {filler from d : ℕ} {before after : List ℕ} → Filled filler from d before after → length before ≤ d → after ≡ packed (each before) from filler (length before)
-unfolding packed
-filled_all {filler} {from} {d} {before} {after} s l = listed_of _ (length before) after s.long (λ x f. go x f (ltb x from) refl)
-  where
-    go : (x : ℕ) → x < length before → (b : Bool) → ltb x from ≡ b → get_or after x 0 ≡ cond (ltb x from) (each before x) filler
-    go x f true q = rw q (s.front x (ltb-true x from q))
-    go x f false q = rw q (s.done x (ltb-false x from q) (omega arith))
+  pub filled_behind : put_mid from (length before - from) before part ≡ packed (each before) from filler (length before)
+  unfolding packed
+  filled_behind = listed_of _ (length before) _ long (λ x l. at_place x l (ltb x from) refl)
+    where
+      nothing : List ℕ
+      nothing = drop (length before - from) (drop from before)
+
+      long : length (take from before ++ (part ++ nothing)) ≡ length before
+      long = simp (length-append, length-drop) (omega (arith, front-long, part-long, length-drop (length before - from) (drop from before), length-drop from before))
+
+      at_place : (x : ℕ) → x < length before → (b : Bool) → ltb x from ≡ b → get_or (take from before ++ (part ++ nothing)) x 0 ≡ cond (ltb x from) (each before x) filler
+      at_place x l true q =
+          let f = ltb-true x from q in
+          rw q (get_or-append (take from before) (part ++ nothing) 0 x (omega (arith, front-long)) ∙ get_or-take from before x 0 f)
+      at_place x l false q =
+          let f = ltb-false x from q in
+          rw q (get_or-append_right (take from before) (part ++ nothing) from x 0 front-long f ∙ get_or-append part nothing 0 (x - from) (omega (arith, part-long)) ∙ ap (λ (y : List ℕ). get_or y (x - from) 0) is ∙ get_or-replicate (length (take (length before - from) (drop from before))) (x - from) filler 0 (omega (arith, many)))
 
 -- rows packed one after the other
 module _ (Λ : ℕ → ℕ) (l N : ℕ) where

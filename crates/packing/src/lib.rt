@@ -10,22 +10,15 @@ ghost use Rattle.packing.specs.Packing.{RowInside, RowPacked, EntriesInside, cou
 
 use answers::{ABSENT, Dim, Level, STAY};
 
-// A narrow number as an index.
-fn wide(x: u16) -> usize
-    ensures { result ≡ x }
-{
-    x as usize
-}
-
 // Is dart d on the level?
 fn stands(lambda: &[u8], level: Level, d: usize) -> bool
     requires { d < length lambda.now }
     ensures { result ≡ survives (each lambda.now) level.0 d }
 {
-    !answers::is_gone(answers::lambda_at(lambda, d), level)
+    level <= answers::lambda_at(lambda, d)
 }
 
-// The rank of each dart: how many survivors are below it. The answer is how many there are.
+// The rank of each dart: how many survivors are below it. The answer is how many there are. By index: one of two rows side by side is written.
 pub fn rank(lambda: &[u8], level: Level, ranks: &mut [u16]) -> u16
     requires { (length lambda.now ≤ 4096) × (length ranks.old ≡ length lambda.now) }
     ensures answer { result ≡ count_on lambda.now level.0 }
@@ -41,27 +34,7 @@ pub fn rank(lambda: &[u8], level: Level, ranks: &mut [u16]) -> u16
     below
 }
 
-// 65,535 behind the packed part.
-fn fill_numbers(row: &mut [u16], from: usize)
-    requires { from ≤ length row.old }
-    ensures { row.new ≡ packed (each row.old) from absent (length row.old) }
-{
-    for d in from..row.len() {
-        row[d] = ABSENT;
-    }
-}
-
-// 255 behind the packed part.
-fn fill_marks(row: &mut [u8], from: usize)
-    requires { from ≤ length row.old }
-    ensures { row.new ≡ packed (each row.old) from stay (length row.old) }
-{
-    for d in from..row.len() {
-        row[d] = STAY;
-    }
-}
-
-// The entries of the survivors in the row that begins at `from`, as ranks, put one after the other from `to` on.
+// The entries of the survivors in the row that begins at `from`, as ranks, put one after the other from `to` on. By index: the part written lies in the row that is read, before what is read.
 fn pack_row(lambda: &[u8], level: Level, ranks: &[u16], rows: &mut [u16], from: usize, to: usize)
     requires { (to ≤ from) × (from + length lambda.now ≤ length rows.old) × RowInside lambda.now level.0 ranks.now rows.old from }
     ensures { RowPacked lambda.now level.0 ranks.now from to rows.old rows.new }
@@ -69,7 +42,7 @@ fn pack_row(lambda: &[u8], level: Level, ranks: &[u16], rows: &mut [u16], from: 
     let mut next = to;
     for d in 0..lambda.len() {
         if stands(lambda, level, d) {
-            let neighbour = wide(rows[from + d]);
+            let neighbour = rows[from + d] as usize;
             rows[next] = ranks[neighbour];
             next = next + 1;
         }
@@ -90,18 +63,10 @@ pub fn pack_rows(n: Dim, lambda: &[u8], level: Level, ranks: &[u16], count: usiz
         from = from + darts;
         to = to + count;
     }
-    fill_numbers(rows, to);
+    rows[to..].fill(ABSENT);
 }
 
-// Λ of a survivor, reduced by the level.
-fn reduced(lambda: Level, level: Level) -> Level
-    requires { level.0 ≤ lambda.0 }
-    ensures { result.0 ≡ lambda.0 - level.0 }
-{
-    Level(lambda.0 - level.0)
-}
-
-// Λ, reduced by the level, Δ and the old numbers.
+// Λ, reduced by the level, Δ and the old numbers. By index: the part written lies before what is read.
 pub fn pack_marks(level: Level, lambda: &mut [u8], delta: &mut [u8], old: &mut [u16])
     requires { (length lambda.old ≤ 4096) × (length delta.old ≡ length lambda.old) × (length old.old ≡ length lambda.old) }
     ensures lambda_left { lambda.new ≡ packedΛ lambda.old level.0 }
@@ -111,15 +76,13 @@ pub fn pack_marks(level: Level, lambda: &mut [u8], delta: &mut [u8], old: &mut [
     let mut next: usize = 0;
     for d in 0..lambda.len() {
         if stands(lambda, level, d) {
-            let low = reduced(answers::lambda_at(lambda, d), level);
-            let mark = answers::delta_at(delta, d);
-            lambda[next] = low.0;
-            delta[next] = mark.0;
+            lambda[next] = lambda[d] - level.0;
+            delta[next] = delta[d];
             old[next] = d as u16;
             next = next + 1;
         }
     }
-    fill_marks(lambda, next);
-    fill_marks(delta, next);
-    fill_numbers(old, next);
+    lambda[next..].fill(STAY);
+    delta[next..].fill(STAY);
+    old[next..].fill(ABSENT);
 }

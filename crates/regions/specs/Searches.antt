@@ -6,6 +6,7 @@ use Rattle.maps.specs.Folded.{Folded}
 use Rattle.maps.specs.Regions.{regions_lent, RegionsLeave}
 use Rattle.maps.specs.Table.{entry, each}
 use Rattle.answers.specs.Rows.{Rows}
+use Rattle.answers.specs.declared.Pyramid.{Pyramid}
 use Rattle.orbits.specs.Choices.{chosen}
 
 -- Does a region go on by row j from a dart with these marks? By a_0 to a_(n−1) always, by a_n where Λ < l and Δ = n−1.
@@ -15,6 +16,14 @@ goes_on n lambda delta l j = ltb j n || (ltb lambda l && eqb (delta + 1) n)
 -- the same of row j and dart d
 abbrev pub region_rows : ℕ → (ℕ → ℕ) → (ℕ → ℕ) → ℕ → ℕ → ℕ → Bool
 region_rows n Λ Δ l j d = goes_on n (Λ d) (Δ d) l j
+
+-- one dimension or more, and marks of the exact lengths
+pub record RegionsAsked (pyramid : Pyramid) : Type 0 where
+  pub one : 1 ≤ pyramid.sizes.n.0
+  pub dimension : pyramid.sizes.n.0 ≤ 4
+  pub darts : pyramid.sizes.darts ≤ 4096
+  pub lambda_length : length pyramid.lambda.now ≡ pyramid.sizes.darts
+  pub delta_length : length pyramid.delta.now ≡ pyramid.sizes.darts
 
 -- choices that say so of every dart
 abbrev pub RegionChoices : ℕ → ℕ → (ℕ → ℕ) → (ℕ → ℕ) → ℕ → List ℕ → Type 0

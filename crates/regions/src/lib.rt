@@ -3,52 +3,33 @@
 
 ghost use Rattle.std.specs.Prelude.{◌≡◌, true, ℕ, ◌≤◌, ◌<◌, length, get_or};
 ghost use Rattle.maps.specs.Verdict.{accepted, scan};
-ghost use Rattle.maps.specs.Table.{entry, each};
+ghost use Rattle.maps.specs.Table.{each};
+ghost use Rattle.maps.specs.Folded.{base};
 ghost use Rattle.maps.specs.Regions.{at23, regions_lent, regions_table};
-ghost use Rattle.answers.specs.Pyramid.{lent};
+ghost use Rattle.answers.specs.Pyramid.{folded};
 ghost use Rattle.answers.specs.Numbers.{verdict_of};
 ghost use Rattle.orbits.specs.Choices.{uses, chosen};
-ghost use Rattle.regions.specs.Searches.{goes_on, RegionChoices, Leads, Lowests, Given, NamingLeaves};
+ghost use Rattle.regions.specs.Searches.{goes_on, RegionsAsked, RegionChoices, Leads, Lowests, Given, NamingLeaves};
 
-use answers::{AtLevel, Check, Dim, Level, Mark, ROOM, Refusal};
+use answers::{Dim, Level, Mark, Pyramid, ROOM, Refusal};
 use orbits::Search;
 
-// Is no dart contracted? All are read in any case, so that the compiler may take many at once.
-fn none_contracted(darts: u16, delta: &[u8]) -> bool
-    requires { length delta.now ≡ darts }
-    ensures { result ≡ true → scan darts (at23 (each delta.now)) ≡ accepted }
+// The first contracted dart, sought only if there is one: no removal's mark is above a contraction's. All marks are first read with no exit, so that the compiler may take many at once.
+fn contracted(pyramid: &Pyramid<'_>) -> Result<(), Refusal>
+    requires { length pyramid.now.delta.now ≡ pyramid.now.sizes.darts }
+    ensures { verdict_of result ≡ scan pyramid.now.sizes.darts (at23 (each pyramid.now.delta.now)) }
 {
-    let mut any = false;
-    for d in 0..darts {
-        let at = d as usize;
-        any = any | answers::contracts(answers::delta_at(delta, at));
+    let largest = pyramid.delta.iter().fold(0, |most, mark| most.max(*mark));
+    if !answers::contracts(Mark(largest)) {
+        return Ok(());
     }
-    !any
-}
-
-// The first contracted dart, sought.
-fn first_contracted(darts: u16, delta: &[u8]) -> Check
-    requires { length delta.now ≡ darts }
-    ensures { verdict_of result ≡ scan darts (at23 (each delta.now)) }
-{
-    for d in 0..darts {
-        let at = d as usize;
-        if answers::contracts(answers::delta_at(delta, at)) {
-            return Check::Refused(Refusal::Contracted(d));
+    // By dart: its number is that of the refusal.
+    for d in 0..pyramid.sizes.darts {
+        if answers::contracts(answers::delta_at(pyramid.delta, d as usize)) {
+            return Err(Refusal::Contracted(d));
         }
     }
-    Check::Accepted
-}
-
-// The first contracted dart, sought only where there is one.
-fn contracted(darts: u16, delta: &[u8]) -> Check
-    requires { length delta.now ≡ darts }
-    ensures { verdict_of result ≡ scan darts (at23 (each delta.now)) }
-{
-    if none_contracted(darts, delta) {
-        return Check::Accepted;
-    }
-    first_contracted(darts, delta)
+    Ok(())
 }
 
 // The rows by which a region goes on from a dart with these marks: a_n only where it is removed below the level with dimension n−1.
@@ -63,79 +44,68 @@ fn rows_from(n: Dim, lambda: Level, delta: Mark, level: Level) -> u8
 }
 
 // The same for each dart.
-fn region_choices(n: Dim, lambda: &[u8], delta: &[u8], level: Level) -> [u8; ROOM]
-    requires { (1 ≤ n.0) × (n.0 ≤ 4) × (length lambda.now ≤ 4096) × (length delta.now ≡ length lambda.now) }
-    ensures { RegionChoices n.0 (length lambda.now) (each lambda.now) (each delta.now) level.0 result }
+fn region_choices(pyramid: &Pyramid<'_>, level: Level) -> [u8; ROOM]
+    requires { RegionsAsked pyramid.now }
+    ensures { RegionChoices pyramid.now.sizes.n.0 pyramid.now.sizes.darts (each pyramid.now.lambda.now) (each pyramid.now.delta.now) level.0 result }
 {
     let mut choices = [0u8; ROOM];
-    for d in 0..lambda.len() {
-        let own = answers::lambda_at(lambda, d);
-        choices[d] = rows_from(n, own, answers::delta_at(delta, d), level);
+    // By index: through an adapter of iter_mut a proof does not see what was written.
+    for d in 0..pyramid.lambda.len() {
+        let lambda = answers::lambda_at(pyramid.lambda, d);
+        let delta = answers::delta_at(pyramid.delta, d);
+        choices[d] = rows_from(pyramid.sizes.n, lambda, delta, level);
     }
     choices
 }
 
-// Gives a name to the darts before the queue's end.
-fn give(name: u16, queue: &[u16; ROOM], end: usize, names: &mut [u16])
-    requires { (end ≤ 4096) × (length names.old ≤ 4096) × ((k : ℕ) → k < end → get_or queue.now k 0 < length names.old) }
-    ensures { Given name queue.now end names.old names.new }
+// Gives a name to the darts found.
+fn give(name: u16, found: &[u16], names: &mut [u16])
+    requires { (length names.old ≤ 4096) × ((k : ℕ) → k < length found.now → get_or found.now k 0 < length names.old) }
+    ensures { Given name found.now (length found.now) names.old names.new }
 {
-    for k in 0..end {
-        let at = queue[k] as usize;
-        names[at] = name;
+    for d in found {
+        names[*d as usize] = name;
     }
 }
 
 // The lowest dart of every orbit. Darts come in rising order, so the first of an orbit is its lowest; each dart is searched once.
-fn name_orbits(n: Dim, darts: u16, rows: &[u16], choices: &[u8; ROOM], names: &mut [u16])
-    requires { Leads n.0 darts rows.now choices.now × (length names.old ≡ darts) × (1 ≤ n.0) }
-    ensures { Lowests (entry darts rows.now) n.0 darts (chosen choices.now) names.new }
+fn name_orbits(pyramid: &Pyramid<'_>, choices: &[u8; ROOM], names: &mut [u16])
+    requires { Leads pyramid.now.sizes.n.0 pyramid.now.sizes.darts pyramid.now.rows.now choices.now × (length names.old ≡ pyramid.now.sizes.darts) × (1 ≤ pyramid.now.sizes.n.0) }
+    ensures { Lowests (base (folded pyramid.now)) pyramid.now.sizes.n.0 pyramid.now.sizes.darts (chosen choices.now) names.new }
 {
     let mut reached = [false; ROOM];
     let mut queue = [0u16; ROOM];
-    for start in 0..darts {
+    // By dart: a search that begins at one changes the flags of others.
+    for start in 0..pyramid.sizes.darts {
         let at = start as usize;
         if !reached[at] {
-            let search = Search {
-                n,
-                darts,
-                dart: start,
-                tail: 0,
-            };
-            let end = orbits::orbit(search, rows, choices, &mut reached, &mut queue);
-            give(start, &queue, end, names);
+            let search = Search::begin(pyramid.sizes.n, pyramid.sizes.darts, start);
+            let end = orbits::orbit(search, pyramid.rows, choices, &mut reached, &mut queue);
+            give(start, &queue[..end], names);
         }
     }
 }
 
 // Name the regions of a level: every base dart gets the lowest dart that it reaches in the base by a_0 to a_(n−1), and by a_n from darts with Λ < level and Δ = n−1. The pyramid is checked first, and nothing is named before all is tested.
 pub fn name_regions(
-    at: AtLevel,
-    rows: &[u16],
-    lambda: &[u8],
-    delta: &[u8],
+    pyramid: &Pyramid<'_>,
+    level: Level,
     table: &mut [u16],
     names: &mut [u16],
-) -> Check
-    ensures verdict { verdict_of result ≡ regions_lent (lent at.sizes rows.now lambda.now delta.now) table.old at.level.0 names.old }
-    ensures table_left { table.new ≡ regions_table (lent at.sizes rows.now lambda.now delta.now) table.old at.level.0 names.old }
-    ensures names_left { NamingLeaves (lent at.sizes rows.now lambda.now delta.now) table.old at.level.0 names.old names.new }
+) -> Result<(), Refusal>
+    ensures verdict { verdict_of result ≡ regions_lent (folded pyramid.now) table.old level.0 names.old }
+    ensures table_left { table.new ≡ regions_table (folded pyramid.now) table.old level.0 names.old }
+    ensures names_left { NamingLeaves (folded pyramid.now) table.old level.0 names.old names.new }
 {
-    let sizes = at.sizes;
-    if !answers::row_fits(sizes.darts, names.len()) {
-        return answers::lent(sizes, false);
+    if !answers::row_fits(pyramid.sizes.darts, names.len()) {
+        return answers::lent(pyramid.sizes, false);
     }
-    if let Check::Refused(r) = checking::check(sizes, rows, lambda, delta, table) {
-        return Check::Refused(r);
+    checking::check(pyramid, table)?;
+    if pyramid.sizes.h < level {
+        return Err(Refusal::NoLevel(level, Dim(0), 0));
     }
-    let level = at.level;
-    if sizes.h.0 < level.0 {
-        return Check::Refused(Refusal::NoLevel(level, Dim(0), 0));
-    }
-    if let Check::Refused(r) = contracted(sizes.darts, delta) {
-        return Check::Refused(r);
-    }
-    let choices = region_choices(sizes.n, lambda, delta, level);
-    name_orbits(sizes.n, sizes.darts, rows, &choices, names);
-    Check::Accepted
+    contracted(pyramid)?;
+    let choices = region_choices(pyramid, level);
+    name_orbits(pyramid, &choices, names);
+    Ok(())
 }

@@ -14,6 +14,9 @@ use Rattle.maps.specs.Row.{row_lent}
 use Rattle.laws.proofs.Tables.{table_size, next_row}
 use Rattle.laws.proofs.Verdicts.{then_accepted, then_three, when_accepted}
 use Rattle.laws.proofs.Sizes.{lent_sized, both_equal}
+use Rattle.answers.specs.declared.Refusal.{Refusal}
+use Rattle.answers.specs.Numbers.{refusal_of}
+use Rattle.answers.proofs.Refusals.{refused_then}
 use Rattle.answers.specs.Lent.{lent_of, asked_of}
 
 module _ (n N h : ℕ) (base unfolded : List ℕ) (l i : ℕ) where
@@ -41,3 +44,10 @@ module _ (n N h : ℕ) (base unfolded : List ℕ) (l i : ℕ) where
       let w = table_size n N i s.0.dimension s.0.darts f in
       let x = next_row i N in
       record { small = w.0; darts = s.0.darts; base_end = omega arith; unfolded_end = omega arith }
+
+  -- what the tests of every job say of a row: a refusal, or that the involution decides
+  pub row_refused : (r : Refusal) → refusal_of r ≡ asked_of n N h (has_length base (suc n * N) && has_length unfolded (suc n * N)) l i 0 → refusal_of r ≡ row_lent n N h base unfolded l i
+  row_refused r e = rw row_lent_lem (refused_then r _ _ e)
+
+  pub row_allowed : accepted ≡ asked_of n N h (has_length base (suc n * N) && has_length unfolded (suc n * N)) l i 0 → number13 n l i 0 ≡ row_lent n N h base unfolded l i
+  row_allowed e = rw (row_lent_lem, ← e)

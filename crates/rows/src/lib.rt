@@ -1,11 +1,18 @@
 // A row handed back: a part of the base rows or of an unfolded level, and no copy. Assumes nothing.
 #![tactic(auto)]
 
-ghost use Rattle.std.specs.Prelude.{◌≡◌};
+ghost use Rattle.std.specs.Prelude.{◌≡◌, ◌&&◌, ◌*◌, suc, length, eqb};
 ghost use Rattle.maps.specs.Row.{row_lent, row_part};
 ghost use Rattle.answers.specs.Numbers.{verdict_of};
 
-use answers::{Check, Dim, Level, Question, Refusal, Sizes};
+use answers::{Dim, Level, Question, Refusal, Sizes};
+
+// Have the base rows and the unfolded table the exact length?
+fn both_fit(n: Dim, darts: u16, base: &[u16], unfolded: &[u16]) -> bool
+    ensures { result ≡ (eqb (length base.now) (suc n.0 * darts) && eqb (length unfolded.now) (suc n.0 * darts)) }
+{
+    answers::rows_fit(n, darts, base.len()) && answers::rows_fit(n, darts, unfolded.len())
+}
 
 // Is the row refused? Both slices are measured, at level 0 too.
 pub fn row_refusal(
@@ -14,25 +21,20 @@ pub fn row_refusal(
     unfolded: &[u16],
     level: Level,
     involution: Dim,
-) -> Check
+) -> Result<(), Refusal>
     ensures { verdict_of result ≡ row_lent sizes.n.0 sizes.darts sizes.h.0 base.now unfolded.now level.0 involution.0 }
 {
-    let fit = answers::both(
-        answers::rows_fit(sizes.n, sizes.darts, base.len()),
-        answers::rows_fit(sizes.n, sizes.darts, unfolded.len()),
-    );
+    let fit = both_fit(sizes.n, sizes.darts, base, unfolded);
     let question = Question {
         level,
         involution,
         dart: 0,
     };
-    if let Check::Refused(r) = answers::asked(sizes, fit, question) {
-        return Check::Refused(r);
+    answers::asked(sizes, fit, question)?;
+    if sizes.n < involution {
+        return Err(Refusal::NoInvolution(level, involution, 0));
     }
-    if sizes.n.0 < involution.0 {
-        return Check::Refused(Refusal::NoInvolution(level, involution, 0));
-    }
-    Check::Accepted
+    Ok(())
 }
 
 // The row: for level 0 part of the base rows, for any other level part of the unfolded table; refused, an empty part of the base rows.
@@ -46,8 +48,8 @@ pub fn row<'a>(
     ensures { result.now ≡ row_part sizes.n.0 sizes.darts sizes.h.0 base.now unfolded.now level.0 involution.0 }
 {
     match row_refusal(sizes, base, unfolded, level, involution) {
-        Check::Refused(_) => &base[0..0],
-        Check::Accepted => {
+        Err(_) => &base[0..0],
+        Ok(()) => {
             let i = involution.0;
             let length = sizes.darts as usize;
             let start = i as usize * length;

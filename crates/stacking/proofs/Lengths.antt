@@ -13,14 +13,14 @@ use Rattle.maps.specs.Folded.{Folded}
 use Rattle.maps.specs.Check.{check_pyramid}
 use Rattle.maps.specs.CheckPyramid.{table_at}
 use Rattle.maps.specs.UnfoldAll.{stacked, blocks_left}
-use Rattle.laws.proofs.Verdicts.{not_refused, then_two}
+use Rattle.laws.proofs.Verdicts.{not_refused, then_two, then_accepted}
 use Rattle.answers.specs.Numbers.{refusal_of}
 use Rattle.answers.specs.Lent.{lent_of}
 use Rattle.answers.specs.declared.Refusal.{Refusal}
 use Rattle.answers.proofs.Refusals.{refusal_refuses, refused_then}
 use Rattle.climbing.specs.Climb.{Base, climbs}
 use Rattle.climbing.proofs.Verdicts.{Says, passed, says, says_when, says_then}
-use Rattle.checking.specs.Checked.{base_and_marks}
+use Rattle.checking.specs.Checked.{base_and_marks, early_with}
 use Rattle.checking.proofs.PyramidCheck.{Lent, lent_facts, based, marks_early_all}
 use Rattle.stacking.specs.Stacked.{stack_sizes, stack_lent, stacked_on, stack_leaves}
 use Rattle.stacking.proofs.Stacks.{block_long}
@@ -77,19 +77,27 @@ module _ (f : Folded) (tables : List ℕ) where
   pub stack_based : S ≡ accepted → M ≡ accepted → Base f
   stack_based e g = based f (table_at f 0) (stack_fits e) g
 
-  -- refused by 1 to 4, by 5 to 8, or as the kernels say
-  pub stack_sizes_lem : (r : Refusal) → refusal_of r ≡ S → (refusal_of r ≡ stack_lent f tables) × (tables ≡ stack_leaves f tables (stack_lent f tables))
-  stack_sizes_lem r e =
-      let z = early_none h r S (M then K) (lengths_early n N h _) e in
-      (refused_then r S (M then K) e ∙ sym parts, none_left ∙ ap (stacked_on f tables) (sym (ap (blocks_left h) parts ∙ z)))
+  -- 1 to 8
+  abbrev E : Verdict
+  E = early_with f (has_length tables (suc h * (suc n * N)))
 
-  pub stack_marks : accepted ≡ S → (r : Refusal) → refusal_of r ≡ M → (refusal_of r ≡ stack_lent f tables) × (tables ≡ stack_leaves f tables (stack_lent f tables))
-  stack_marks g r e =
-      let p : stack_lent f tables ≡ (M then K) = parts ∙ rw (← g) in
-      let z = early_none h r M K (marks_early_all f (table_at f 0)) e in
-      (refused_then r M K e ∙ sym p, none_left ∙ ap (stacked_on f tables) (sym (ap (blocks_left h) p ∙ z)))
+  early_then : stack_lent f tables ≡ (E then K)
+  early_then = parts ∙ then_two S M K
 
-  pub stack_climbed : accepted ≡ S → accepted ≡ M → {v : Verdict} {after : List ℕ} → v ≡ K → after ≡ stack_leaves f tables K → (v ≡ stack_lent f tables) × (after ≡ stack_leaves f tables (stack_lent f tables))
-  stack_climbed g k e leaves =
-      let p : stack_lent f tables ≡ K = parts ∙ rw (← g, ← k) in
-      (e ∙ sym p, leaves ∙ ap (stack_leaves f tables) (sym p))
+  -- refused by 1 to 8, or as the kernels say
+  pub stack_refused : (r : Refusal) → refusal_of r ≡ E → (refusal_of r ≡ stack_lent f tables) × (tables ≡ stack_leaves f tables (stack_lent f tables))
+  stack_refused r e =
+      let z = early_none h r E K (says_then S M (lengths_early n N h _) (marks_early_all f (table_at f 0))) e in
+      (refused_then r E K e ∙ sym early_then, none_left ∙ ap (stacked_on f tables) (sym (ap (blocks_left h) early_then ∙ z)))
+
+  module _ (e : accepted ≡ E) where
+    early_parts : (S ≡ accepted) × (M ≡ accepted)
+    early_parts = then_accepted S M (sym e)
+
+    pub stack_asked : Base f × (length tables ≡ suc h * (suc n * N))
+    stack_asked = (stack_based early_parts.0 early_parts.1, stack_room early_parts.0)
+
+    pub stack_climbed : {v : Verdict} {after : List ℕ} → v ≡ K → after ≡ stack_leaves f tables K → (v ≡ stack_lent f tables) × (after ≡ stack_leaves f tables (stack_lent f tables))
+    stack_climbed k leaves =
+        let p : stack_lent f tables ≡ K = early_then ∙ rw (← e) in
+        (k ∙ sym p, leaves ∙ ap (stack_leaves f tables) (sym p))

@@ -6,8 +6,8 @@ use Prim.Native.Nat.{ℕ, zero, suc, ◌+◌, ◌-◌, ◌*◌, ◌≤◌, ◌<�
 use native.Mathlib.Nat.{suc-mul, mul-le-mul_right}
 use native.Mathlib.Numerals.{add-one}
 use native.Mathlib.Omega.{arith}
-use lib.ListN.{length, get_or, set, take, drop, length-append, length-drop, get_or-append}
-use lib.Seq.{get_or-take, take-take, take_all, drop-drop, take_at, drop_at, drop-length, drop-append-add, drop-append_seam, drop-append-le, take-append-le, length-take-le, paste, paste-suc}
+use lib.ListN.{length, take, drop, length-append, length-drop}
+use lib.Seq.{take-take, take_all, drop-drop, take_at, drop_at, drop-length, drop-append-add, drop-append_seam, drop-append-le, take-append-le, length-take-le}
 use lib.Dec.{eqb}
 use borrow.Author.Tests.{eqb-true, eqb-false}
 use borrow.Rule.Slice.PartMut.{put_mid, put_same}
@@ -32,22 +32,6 @@ use Rattle.climbing.proofs.Verdicts.{Says, Late, passed, says, kernel_late}
 use Rattle.climbing.proofs.Steps.{climb_tested, climb_strung, climb_refused, climb_next, kernel_is}
 use Rattle.stacking.proofs.Strings.{strings}
 use Rattle.stacking.specs.Stacked.{stacked_on, raised}
-
--- the first half copied into the second, so far
-module _ (d : List ℕ) (s : ℕ) (long : length d ≡ s + s) where
-  pub doubled_read : (k : ℕ) → k < s → get_or (paste d s d k) k 0 ≡ get_or d k 0
-  doubled_read k l =
-      let a : length (take s d) ≡ s = length-take-le s d (omega arith) in
-      let b : length (take s d ++ take k d) ≡ s + length (take k d) = omega (arith, length-append (take s d) (take k d)) in
-      get_or-append (take s d ++ take k d) (drop (s + k) d) 0 k (omega arith) ∙ get_or-append (take s d) (take k d) 0 k (omega arith) ∙ get_or-take s d k 0 l
-
-  pub doubled_next : (k : ℕ) → k < s → set (paste d s d k) (s + k) (get_or (paste d s d k) k 0) ≡ paste d s d (k + 1)
-  doubled_next k l = rw (doubled_read k l, add-one) (paste-suc d s d k 0 (omega arith) (omega arith))
-
-  pub doubled_all : paste d s d s ≡ take s d ++ take s d
-  doubled_all =
-      let e : drop (s + s) d ≡ [] = rw (← long) (drop-length d) in
-      ap (λ (x : List ℕ). take s d ++ take s d ++ x) e ∙ append-nil (take s d ++ take s d)
 
 -- two blocks, the second a copy of the first, of which the second is lent and put back
 module _ (pair : List ℕ) (s e : ℕ) (is : e ≡ s) (long : length pair ≡ s + s) (copied : List ℕ) (twice : copied ≡ take e pair ++ take e pair) where
@@ -155,14 +139,14 @@ module _ (f : Folded) (b : Base f) where
 
   -- the base in the first block
   module _ (found : List ℕ) where
-    pub based_same : (m : ℕ) → stacked_on f (rows ++ drop (suc n * N) found) (suc m) ≡ stacked_on f found (suc m)
+    based_same : (m : ℕ) → stacked_on f (rows ++ drop (suc n * N) found) (suc m) ≡ stacked_on f found (suc m)
     based_same m =
         let e : suc m * (suc n * N) ≡ length rows + m * (suc n * N) = omega (arith, suc-mul m (suc n * N), b.rows_long) in
         let g : suc n * N + m * (suc n * N) ≡ suc m * (suc n * N) = omega (arith, suc-mul m (suc n * N)) in
         ap (λ (x : List ℕ). stacked f (suc m) ++ x)
         (ap (λ (x : ℕ). drop x (rows ++ drop (suc n * N) found)) e ∙ drop-append-add rows (drop (suc n * N) found) (m * (suc n * N)) ∙ drop-drop (m * (suc n * N)) (suc n * N) found ∙ ap (λ (x : ℕ). drop x found) g)
 
-    pub stacking_none : Stacking f (rows ++ drop (suc n * N) found) (rows ++ drop (suc n * N) found) 0 0
+    stacking_none : Stacking f (rows ++ drop (suc n * N) found) (rows ++ drop (suc n * N) found) 0 0
     unfolding stacked scan
     stacking_none =
         let e : 1 * (suc n * N) ≡ length rows = omega (arith, b.rows_long) in
@@ -173,6 +157,23 @@ module _ (f : Folded) (b : Base f) where
               ∙ ap (λ (x : List ℕ). table_at f 0 ++ x) (sym (ap (λ (x : ℕ). drop x (rows ++ drop (suc n * N) found)) e ∙ drop-append_seam rows (drop (suc n * N) found)));
           checked = refl;
         }
+
+  -- the base, copied into the first block
+  module _ (found : List ℕ) (long : length found ≡ suc h * (suc n * N)) {block : List ℕ} (copied : block ≡ rows) where
+    abbrev start : List ℕ
+    start = block ++ drop (length rows) found
+
+    start_is : start ≡ rows ++ drop (suc n * N) found
+    start_is = ap (λ (x : List ℕ). x ++ drop (length rows) found) copied ∙ ap (λ (x : ℕ). rows ++ drop x found) b.rows_long
+
+    pub start_long : length start ≡ suc h * (suc n * N)
+    start_long = ap length start_is ∙ length-append rows (drop (suc n * N) found) ∙ omega (arith, length-drop (suc n * N) found, b.rows_long, long, suc-mul h (suc n * N))
+
+    pub start_stacking : Stacking f start start 0 0
+    start_stacking = subst (λ (x : List ℕ). Stacking f x x 0 0) (sym start_is) (stacking_none found)
+
+    pub start_same : (m : ℕ) → stacked_on f start (suc m) ≡ stacked_on f found (suc m)
+    start_same m = ap (λ (x : List ℕ). stacked_on f x (suc m)) start_is ∙ based_same found m
 
   module _ (found tables : List ℕ) (long : length found ≡ suc h * (suc n * N)) (l from : ℕ) (v : Stacking f found tables l from) where
     climbed_by : {head next : List ℕ} → Linked N (lambda_of f) 0 head next → Climbed f l head next (table_at f l)

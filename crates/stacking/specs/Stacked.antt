@@ -1,24 +1,19 @@
 -- What climbing into blocks asks and leaves. Assumes nothing: these are definitions.
-use Rattle.std.specs.Prelude.{Bool, ◌&&◌, List, ◌++◌, ℕ, suc, ◌*◌, take, drop, eqb}
+use Rattle.std.specs.Prelude.{List, ◌++◌, ℕ, suc, ◌*◌, take, drop}
 use Rattle.maps.specs.Verdict.{Verdict, if_accepted, ◌then◌}
 use Rattle.maps.specs.Sizes.{has_length}
 use Rattle.maps.specs.Table.{entry}
 use Rattle.maps.specs.Folded.{Folded, base, lambda_of, delta_of}
 use Rattle.maps.specs.Check.{check_kernel, check_pyramid}
 use Rattle.maps.specs.UnfoldAll.{stacked, blocks_left}
-use Rattle.answers.specs.Lent.{lent_of}
+use Rattle.checking.specs.Checked.{sizes_with}
 use Rattle.kernels.specs.declared.Kernel.{Kernel}
 use Rattle.kernels.specs.Ready.{row_of, removed_from}
 use Rattle.climbing.specs.Climb.{climbs}
 
--- have base rows, Λ, Δ and blocks of these lengths the exact ones?
-abbrev pub blocks_fit : ℕ → ℕ → ℕ → ℕ → ℕ → ℕ → ℕ → Bool
-blocks_fit n N h rows lambda delta tables = eqb rows (suc n * N) && (eqb lambda N && (eqb delta N && eqb tables (suc h * (suc n * N))))
-
 -- 1 to 4 of base rows, marks and blocks
 abbrev pub stack_sizes : Folded → List ℕ → Verdict
-stack_sizes f tables =
-    lent_of f.n f.N f.h (has_length f.rows (suc f.n * f.N) && (has_length f.lambda f.N && (has_length f.delta f.N && has_length tables (suc f.h * (suc f.n * f.N)))))
+stack_sizes f tables = sizes_with f (has_length tables (suc f.h * (suc f.n * f.N)))
 
 -- and the check's own
 abbrev pub stack_lent : Folded → List ℕ → Verdict
@@ -45,8 +40,8 @@ abbrev pub size_of : Kernel → ℕ
 size_of kernel = suc kernel.n.0 * kernel.darts
 
 -- 9 and 10 of a kernel, tested on the first of two blocks
-abbrev pub pair_tested : Kernel → List ℕ → List ℕ → List ℕ → Verdict
-pair_tested kernel lambda delta pair = check_kernel (entry kernel.darts (take (size_of kernel) pair)) kernel.n.0 kernel.darts (row_of kernel lambda delta) kernel.level.0
+abbrev pub pair_tested : Kernel → List ℕ → Verdict
+pair_tested kernel pair = check_kernel (entry kernel.darts (take (size_of kernel) pair)) kernel.n.0 kernel.darts (row_of kernel) kernel.level.0
 
 -- two blocks: the second becomes the first without the kernel, where that is accepted
 abbrev pub raised : ℕ → ℕ → ℕ → (ℕ → ℕ) → List ℕ → List ℕ

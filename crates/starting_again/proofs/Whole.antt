@@ -37,12 +37,12 @@ module _ (P : Folded) (table : List ℕ) (l : ℕ) (old : List ℕ) where
     pub old_left : old' ≡ rebase_old P table l old
 
   -- a refusal changes nothing of these
-  pub refused_answers : (r : Refusal) → refusal_of r ≡ rebase_lent P table l old → Answers (record { verdict = refusal_of r; darts = N; height = h }) rows lambda delta old
+  pub refused_answers : (r : Refusal) → refusal_of r ≡ rebase_lent P table l old → Answers (record { verdict = refusal_of r; dimension = n; darts = N; height = h }) rows lambda delta old
   unfolding rebase_darts rebase_height rebase_rows rebase_lambda rebase_delta rebase_old
   refused_answers r e =
       let v = rebase_lent P table l old in
       record {
-        outcome = λ i. record { verdict = e i; darts = refusal_keeps r v (new_darts N (each lambda) l) N e i; height = refusal_keeps r v (new_height h l) h e i };
+        outcome = λ i. record { verdict = e i; dimension = n; darts = refusal_keeps r v (new_darts N (each lambda) l) N e i; height = refusal_keeps r v (new_height h l) h e i };
         rows_left = refusal_keeps r v _ rows e;
         lambda_left = refusal_keeps r v _ lambda e;
         delta_left = refusal_keeps r v _ delta e;
@@ -100,7 +100,7 @@ module _ (P : Folded) (table : List ℕ) (l : ℕ) (old : List ℕ) where
         → lambda' ≡ packed (newΛ (length lambda) Λ l) (new_darts (length lambda) Λ l) stay (length lambda)
         → delta' ≡ packed (newΔ (length lambda) Λ (each delta) l) (new_darts (length lambda) Λ l) stay (length lambda)
         → old' ≡ packed (old_number (length lambda) Λ l) (new_darts (length lambda) Λ l) absent (length lambda)
-        → Answers (record { verdict = accepted; darts = count; height = height }) rows' lambda' delta' old'
+        → Answers (record { verdict = accepted; dimension = n; darts = count; height = height }) rows' lambda' delta' old'
     unfolding rebase_darts rebase_height rebase_rows rebase_lambda rebase_delta rebase_old
     accepted_answers is many high r p q o =
         let long = lent.lambda_long in

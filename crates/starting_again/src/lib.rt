@@ -5,49 +5,38 @@ mod reaching; // reaching.rt: the kernels below the level, removed in the rows
 
 ghost use Rattle.std.specs.Prelude.{◌≡◌};
 ghost use Rattle.maps.specs.Rebase.{rebase_lent, rebase_rows, rebase_lambda, rebase_delta, rebase_old, rebase_table};
-ghost use Rattle.answers.specs.Pyramid.{lent};
+ghost use Rattle.answers.specs.Pyramid.{lent, folded};
 ghost use Rattle.answers.specs.Numbers.{verdict_of};
 ghost use Rattle.starting_again.specs.Answers.{rebased_of, rebasing};
 
-use answers::{AtLevel, Check, Dim, Level, Refusal};
-
-// The answer: the new number of darts and the new height, or why nothing was changed.
-#[derive(Clone, Copy)]
-pub enum Rebased {
-    Base(u16, Level),
-    Refused(Refusal),
-}
+use answers::{AtLevel, Dim, Level, Pyramid, Refusal, Sizes};
 
 // All tests, in their order.
 fn tested(
-    at: AtLevel,
-    rows: &[u16],
-    lambda: &[u8],
-    delta: &[u8],
+    pyramid: &Pyramid<'_>,
+    level: Level,
     table: &mut [u16],
     old: &[u16],
-) -> Check
-    ensures verdict { verdict_of result ≡ rebase_lent (lent at.sizes rows.now lambda.now delta.now) table.old at.level.0 old.now }
-    ensures table_left { table.new ≡ rebase_table (lent at.sizes rows.now lambda.now delta.now) table.old at.level.0 old.now }
+) -> Result<(), Refusal>
+    ensures verdict { verdict_of result ≡ rebase_lent (folded pyramid.now) table.old level.0 old.now }
+    ensures table_left { table.new ≡ rebase_table (folded pyramid.now) table.old level.0 old.now }
 {
-    let sizes = at.sizes;
-    let level = at.level;
-    if let Check::Refused(r) = answers::lent(sizes, answers::row_fits(sizes.darts, old.len())) {
-        return Check::Refused(r);
+    answers::lent(
+        pyramid.sizes,
+        answers::row_fits(pyramid.sizes.darts, old.len()),
+    )?;
+    checking::check(pyramid, table)?;
+    if pyramid.sizes.h < level {
+        return Err(Refusal::NoLevel(level, Dim(0), 0));
     }
-    if let Check::Refused(r) = checking::check(sizes, rows, lambda, delta, table) {
-        return Check::Refused(r);
+    if answers::survivors_on(pyramid.lambda, level) == 0 {
+        return Err(Refusal::Darts);
     }
-    if sizes.h.0 < level.0 {
-        return Check::Refused(Refusal::NoLevel(level, Dim(0), 0));
-    }
-    if answers::survivors_on(lambda, level) == 0 {
-        return Check::Refused(Refusal::Darts);
-    }
-    Check::Accepted
+    Ok(())
 }
 
-// Start again: nothing is changed before all is tested; the lent row has the ranks until the rows are packed, and then the old numbers.
+// Start again, with the new pyramid's sizes as the answer: nothing is changed before all is tested; the lent row has the ranks until the rows are packed, and then the old numbers.
+// Lent apart: all is written, and a `Pyramid` is read alone.
 pub fn rebase(
     at: AtLevel,
     rows: &mut [u16],
@@ -55,7 +44,7 @@ pub fn rebase(
     delta: &mut [u8],
     table: &mut [u16],
     old: &mut [u16],
-) -> Rebased
+) -> Result<Sizes, Refusal>
     ensures answer { rebased_of at.sizes result ≡ rebasing (lent at.sizes rows.old lambda.old delta.old) table.old at.level.0 old.old }
     ensures rows_left { rows.new ≡ rebase_rows (lent at.sizes rows.old lambda.old delta.old) table.old at.level.0 old.old }
     ensures lambda_left { lambda.new ≡ rebase_lambda (lent at.sizes rows.old lambda.old delta.old) table.old at.level.0 old.old }
@@ -63,14 +52,22 @@ pub fn rebase(
     ensures table_left { table.new ≡ rebase_table (lent at.sizes rows.old lambda.old delta.old) table.old at.level.0 old.old }
     ensures old_left { old.new ≡ rebase_old (lent at.sizes rows.old lambda.old delta.old) table.old at.level.0 old.old }
 {
-    if let Check::Refused(r) = tested(at, rows, lambda, delta, table, old) {
-        return Rebased::Refused(r);
-    }
     let sizes = at.sizes;
     let level = at.level;
+    let pyramid = Pyramid {
+        sizes,
+        rows: &*rows,
+        lambda: &*lambda,
+        delta: &*delta,
+    };
+    tested(&pyramid, level, table, old)?;
     reaching::climb(sizes.n, sizes.darts as usize, level, lambda, delta, rows);
     let count = packing::rank(lambda, level, old);
     packing::pack_rows(sizes.n, lambda, level, old, count as usize, rows);
     packing::pack_marks(level, lambda, delta, old);
-    Rebased::Base(count, Level(sizes.h.0 - level.0))
+    Ok(Sizes {
+        n: sizes.n,
+        h: Level(sizes.h.0 - level.0),
+        darts: count,
+    })
 }

@@ -2,7 +2,7 @@
 ghost use Rattle.starting_again.specs.Reaching.{HasLevel, HoldsLevel};
 
 use answers::{ABSENT, Dim, Level, ROOM};
-use kernels::{HEADS, Kernel};
+use kernels::{HEADS, Kernel, Strings};
 
 // Kernels 0 to level−1, in rising order. They are accepted, so none is tested again.
 pub(crate) fn climb(
@@ -16,18 +16,22 @@ pub(crate) fn climb(
     requires { HasLevel n.0 darts rows.old lambda.now delta.now level.0 }
     ensures { HoldsLevel n.0 darts rows.old lambda.now delta.now level.0 rows.new }
 {
-    let mut head = [ABSENT; HEADS];
-    let mut next = [0u16; ROOM];
-    kernels::link(lambda, &mut head, &mut next);
-    let top = level.0;
-    for l in 0..top {
-        let first = head[l as usize];
+    let mut strings = Strings {
+        head: [ABSENT; HEADS],
+        next: [0; ROOM],
+    };
+    strings.string(lambda);
+    // By level: it picks the string, and is the kernel's own.
+    for l in 0..level.0 {
         let kernel = Kernel {
             n,
             darts: darts as u16,
             level: Level(l),
-            first,
+            first: strings.head[l as usize],
+            lambda,
+            delta,
+            next: &strings.next,
         };
-        kernels::remove(kernel, lambda, delta, &next, rows);
+        kernel.remove(rows);
     }
 }

@@ -86,7 +86,7 @@ module _ (x : ℕ → ℕ) (l : ℕ) (h : (k : ℕ) → k < 8 → x k ≤ 32) (g
   lanes_fit = rw (lanes_add x (128 - l)) (lanes_lt (λ k. x k + (128 - l)) 8 (λ k f. omega (arith, h k f)))
 
 -- one row more on a stack
-pub stack_more : (t : ℕ → Bool) (j i s y : ℕ) → j + i ≡ 7 → s ≡ stack_of t j * 2 ^ suc i → y ≡ lanes (λ k. one (t (8 * j + k))) * 128
+stack_more : (t : ℕ → Bool) (j i s y : ℕ) → j + i ≡ 7 → s ≡ stack_of t j * 2 ^ suc i → y ≡ lanes (λ k. one (t (8 * j + k))) * 128
     → s / 2 + y ≡ stack_of t (j + 1) * 2 ^ i
 unfolding sum stack_of
 stack_more t j i s y e f g =
@@ -101,12 +101,12 @@ one_le true = omega arith
 one_le false = omega arith
 
 -- eight bits are no more than eight ones
-pub lanes_ones : (t : ℕ → Bool) → lanes (λ k. one (t k)) ≤ 0x0101010101010101
+lanes_ones : (t : ℕ → Bool) → lanes (λ k. one (t k)) ≤ 0x0101010101010101
 unfolding sum lanes
 lanes_ones t = omega (arith, one_le (t 0), one_le (t 1), one_le (t 2), one_le (t 3), one_le (t 4), one_le (t 5), one_le (t 6), one_le (t 7))
 
 -- a stack of fewer than eight rows has room for one more
-pub stack_room : (i s y : ℕ) → s + 0x0101010101010101 * 2 ^ suc i ≤ 0x0101010101010101 * 256 → y ≤ 0x0101010101010101 → s / 2 + y * 128 + 0x0101010101010101 * 2 ^ i ≤ 0x0101010101010101 * 256
+stack_room : (i s y : ℕ) → s + 0x0101010101010101 * 2 ^ suc i ≤ 0x0101010101010101 * 256 → y ≤ 0x0101010101010101 → s / 2 + y * 128 + 0x0101010101010101 * 2 ^ i ≤ 0x0101010101010101 * 256
 stack_room i s y h g = omega (arith, pow-suc 2 i)
 
 -- what a part from place s on has at place k
@@ -114,9 +114,24 @@ pub part_each : (xs : List ℕ) (s k : ℕ) → s + k < length xs → each (take
 part_each xs s k h = let f : k < length xs - s = omega arith in rw (get_or-take, get_or-drop)
 
 -- eight signs of a part are a row of the whole
-pub lanes_part : (xs : List ℕ) (s l : ℕ) → s + 8 ≤ length xs
+lanes_part : (xs : List ℕ) (s l : ℕ) → s + 8 ≤ length xs
     → lanes (λ k. one (survives (each (take (length xs - s) (drop s xs))) l k)) ≡ lanes (λ k. one (survives (each xs) l (s + k)))
 lanes_part xs s l h = lanes_same (λ k. one (survives (each (take (length xs - s) (drop s xs))) l k)) (λ k. one (survives (each xs) l (s + k))) (λ k f. rw (part_each xs s k (omega arith)))
+
+-- one row more of a part on a stack: it has room, and is the next
+module _ (xs : List ℕ) (l j s : ℕ) (few : j < 8) (long : 8 * j + 8 ≤ length xs) (low : s + 0x0101010101010101 * 2 ^ (8 - j) ≤ 0x0101010101010101 * 256)
+    {y : ℕ} (signs_are : y ≡ lanes (λ k. one (survives (each (take (length xs - 8 * j) (drop (8 * j) xs))) l k)) * 128) where
+  row_is : y ≡ lanes (λ k. one (survives (each xs) l (8 * j + k))) * 128
+  row_is = signs_are ∙ ap (λ (x : ℕ). x * 128) (lanes_part xs (8 * j) l long)
+
+  left : 8 - j ≡ suc (7 - j)
+  left = omega arith
+
+  pub row_room : s / 2 + y + 0x0101010101010101 * 2 ^ (7 - j) ≤ 0x0101010101010101 * 256
+  row_room = rw row_is (stack_room (7 - j) s (lanes (λ k. one (survives (each xs) l (8 * j + k)))) (rw left at low) (lanes_ones (λ k. survives (each xs) l (8 * j + k))))
+
+  pub row_more : s ≡ stack_of (survives (each xs) l) j * 2 ^ (8 - j) → s / 2 + y ≡ stack_of (survives (each xs) l) (j + 1) * 2 ^ (7 - j)
+  row_more e = stack_more (survives (each xs) l) j (7 - j) s y (omega arith) (rw left at e) row_is
 
 -- 64 bits of a part
 pub bits_part : (xs : List ℕ) (s l : ℕ) → s + 64 ≤ length xs → word_bits (survives (each (take (length xs - s) (drop s xs))) l) ≡ word_bits (λ b. survives (each xs) l (s + b))

@@ -1,5 +1,6 @@
 // Survivor words of a level, and the number of ones in them. Assumes nothing.
-ghost use Rattle.std.specs.Prelude.{◌≡◌, Bool, [], ℕ, ◌+◌, ◌*◌, ◌<◌, ◌≤◌, length};
+ghost use Rattle.std.specs.Prelude.{◌≡◌, Bool, [], ℕ, ◌+◌, ◌*◌, ◌<◌, ◌≤◌, ◌&&◌, length, eqb, ltb, max, position};
+ghost use Rattle.std.specs.List.{fold};
 ghost use Rattle.std.specs.Int.Count.{ones};
 ghost use Rattle.maps.specs.Verdict.{scan};
 ghost use Rattle.maps.specs.Count.{one, sum};
@@ -7,50 +8,36 @@ ghost use Rattle.maps.specs.Folded.{survives};
 ghost use Rattle.maps.specs.Table.{each, listed};
 ghost use Rattle.maps.specs.Survivors.{at_lambda8, word as word_of, survivors_lent, survivor_count, survivor_words};
 ghost use Rattle.answers.specs.Numbers.{verdict_of};
-ghost use Rattle.survivor_words.specs.Answers.{verdict_of_survivors, count_of_survivors};
+ghost use Rattle.survivor_words.specs.Answers.{count_of_survivors};
 ghost use Rattle.survivor_words.specs.Parts.{InWord, lanes, stack_of, word_bits};
 
-use super::counted::Survivors;
-use answers::{Check, Dim, Level, Question, Refusal, Sizes};
+use answers::{Dim, Level, Question, Refusal, Sizes};
 
-// A level that no Λ is above: the largest, found without a way out of the loop, so that it is found many darts at a time.
+// The largest Λ, 0 where there is none: found without a way out of the loop, so that it is found many darts at a time.
 fn largest(lambda: &[u8]) -> Level
-    ensures { (d : ℕ) → d < length lambda.now → each lambda.now d ≤ result.0 }
+    ensures { result.0 ≡ fold max 0 lambda.now }
 {
-    let mut most = Level(0);
-    for d in 0..lambda.len() {
-        let own = answers::lambda_at(lambda, d);
-        if most.0 < own.0 {
-            most = own;
-        }
-    }
-    most
+    Level(lambda.iter().fold(0, |most, own| most.max(*own)))
 }
 
-// Number 8 of Λ alone, over all darts, with the level asked.
-fn lambda_tested(darts: u16, h: Level, lambda: &[u8], level: Level) -> Check
+// The first dart whose Λ is above h.
+fn first_above(h: Level, lambda: &[u8]) -> Option<usize>
+    ensures { result ≡ position (λ own. ltb h.0 own) lambda.now }
+{
+    lambda.iter().position(|own| h.0 < *own)
+}
+
+// Number 8 of Λ alone, over all darts, with the level asked; the dart is sought only if there is one.
+fn lambda_tested(darts: u16, h: Level, lambda: &[u8], level: Level) -> Result<(), Refusal>
     requires { length lambda.now ≡ darts }
     ensures { verdict_of result ≡ scan darts (at_lambda8 h.0 (each lambda.now) level.0) }
 {
-    let most = largest(lambda);
-    if most.0 <= h.0 {
-        return Check::Accepted;
-    }
-    first_above(darts, h, lambda, level)
-}
-
-// The first dart that number 8 of Λ alone names.
-fn first_above(darts: u16, h: Level, lambda: &[u8], level: Level) -> Check
-    requires { length lambda.now ≡ darts }
-    ensures { verdict_of result ≡ scan darts (at_lambda8 h.0 (each lambda.now) level.0) }
-{
-    for d in 0..darts {
-        let own = answers::lambda_at(lambda, d as usize);
-        if h.0 < own.0 {
-            return Check::Refused(Refusal::Marks(level, Dim(0), d));
+    if h < largest(lambda) {
+        if let Some(d) = first_above(h, lambda) {
+            return Err(Refusal::Marks(level, Dim(0), d as u16));
         }
     }
-    Check::Accepted
+    Ok(())
 }
 
 // How many darts word w has: 64, fewer in the last, none past it.
@@ -58,14 +45,7 @@ fn in_word(darts: usize, w: usize) -> usize
     requires { w < 64 }
     ensures { InWord darts w result }
 {
-    let first = w * 64;
-    if darts <= first {
-        return 0;
-    }
-    if darts - first < 64 {
-        return darts - first;
-    }
-    64
+    darts.saturating_sub(w * 64).min(64)
 }
 
 // Word w: dart 64 w + b at bit b.
@@ -76,6 +56,7 @@ fn word(lambda: &[u8], level: Level, w: usize) -> u64
     let first = w * 64;
     let many = in_word(lambda.len(), w);
     let mut x: u64 = 0;
+    // By index: bit b is that of dart 64 w + b.
     for b in 0..many {
         if !answers::is_gone(answers::lambda_at(lambda, first + b), level) {
             x = x | (1u64 << b);
@@ -84,27 +65,14 @@ fn word(lambda: &[u8], level: Level, w: usize) -> u64
     x
 }
 
-// A byte as a number of 64 bits.
-fn wide(x: u8) -> u64
-    ensures { (result ≡ x) × (result < 256) }
-{
-    x as u64
-}
-
 // Eight bytes in one number, the first lowest: one load.
 fn eight_bytes(part: &[u8]) -> u64
     requires { 8 ≤ length part.now }
     ensures { result ≡ lanes (each part.now) }
 {
-    let low = wide(part[0])
-        + wide(part[1]) * 256
-        + wide(part[2]) * 65536
-        + wide(part[3]) * 16777216;
-    let high = wide(part[4])
-        + wide(part[5]) * 256
-        + wide(part[6]) * 65536
-        + wide(part[7]) * 16777216;
-    low + high * 4294967296
+    u64::from_le_bytes([
+        part[0], part[1], part[2], part[3], part[4], part[5], part[6], part[7],
+    ])
 }
 
 // The signs of eight darts: 128 in a byte whose dart is on the level. No Λ is above 32, so a sum that reaches 128 tells it of eight darts at once.
@@ -112,7 +80,7 @@ fn eight_signs(part: &[u8], level: Level) -> u64
     requires { (8 ≤ length part.now) × (level.0 ≤ 32) × ((k : ℕ) → k < 8 → each part.now k ≤ 32) }
     ensures { result ≡ lanes (λ k. one (survives (each part.now) level.0 k)) * 128 }
 {
-    let more = (128 - wide(level.0)) * 0x0101010101010101u64;
+    let more = (128 - u64::from(level.0)) * 0x0101010101010101u64;
     (eight_bytes(part) + more) & 0x8080808080808080u64
 }
 
@@ -171,6 +139,7 @@ fn fill_words(lambda: &[u8], level: Level, words: &mut [u64]) -> u32
     ensures words_left { words.new ≡ listed (word_of (length lambda.now) (each lambda.now) level.0) 64 }
 {
     let mut count: u32 = 0;
+    // By index: through an adapter of iter_mut a proof does not see what was written.
     for w in 0..64usize {
         let x = any_word(lambda, level, w);
         words[w] = x;
@@ -179,13 +148,26 @@ fn fill_words(lambda: &[u8], level: Level, words: &mut [u64]) -> u32
     count
 }
 
+// Have Λ and the words the exact lengths?
+fn both_fit(darts: u16, lambda: &[u8], words: &[u64]) -> bool
+    ensures { result ≡ (eqb (length lambda.now) darts && eqb (length words.now) 64) }
+{
+    answers::row_fits(darts, lambda.len()) && words.len() == 64
+}
+
 // Survivor words of a level, with the survivor count: the number of ones in them. After a refusal nothing lent has changed.
-pub fn survivors(darts: u16, h: Level, lambda: &[u8], level: Level, words: &mut [u64]) -> Survivors
-    ensures verdict { verdict_of_survivors result ≡ survivors_lent darts h.0 lambda.now level.0 words.old }
+pub fn survivors(
+    darts: u16,
+    h: Level,
+    lambda: &[u8],
+    level: Level,
+    words: &mut [u64],
+) -> Result<u32, Refusal>
+    ensures verdict { verdict_of result ≡ survivors_lent darts h.0 lambda.now level.0 words.old }
     ensures count { count_of_survivors result ≡ survivor_count darts h.0 lambda.now level.0 words.old }
     ensures words_left { words.new ≡ survivor_words darts h.0 lambda.now level.0 words.old }
 {
-    let fit = answers::both(answers::row_fits(darts, lambda.len()), words.len() == 64);
+    let fit = both_fit(darts, lambda, words);
     let question = Question {
         level,
         involution: Dim(0),
@@ -196,12 +178,8 @@ pub fn survivors(darts: u16, h: Level, lambda: &[u8], level: Level, words: &mut 
         h,
         darts,
     };
-    if let Check::Refused(r) = answers::asked(sizes, fit, question) {
-        return Survivors::Refused(r);
-    }
-    if let Check::Refused(r) = lambda_tested(darts, h, lambda, level) {
-        return Survivors::Refused(r);
-    }
+    answers::asked(sizes, fit, question)?;
+    lambda_tested(darts, h, lambda, level)?;
     let count = fill_words(lambda, level, words);
-    Survivors::Counted(count)
+    Ok(count)
 }

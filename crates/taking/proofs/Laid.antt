@@ -1,18 +1,22 @@
 -- Laws of values written into a slice: none, one more, others after them, and values at the front. Assumes nothing.
-use mathlib.Core.Logic.{inl, inr, ⊎_elim}
-use mathlib.Core.Path.{◌≡◌, refl, sym, ap, ◌∙◌}
+use mathlib.Core.Logic.{◌⊎◌, inl, inr, ⊎_elim}
+use mathlib.Core.Path.{◌≡◌, refl, sym, ap, ap₂, ◌∙◌}
 use mathlib.Core.Bool.{Bool, true, false}
 use mathlib.Core.List.{List, ◌++◌}
-use Prim.Native.Nat.{ℕ, ◌+◌, ◌-◌, ◌≤◌, ◌<◌}
+use Prim.Native.Nat.{ℕ, ◌+◌, ◌-◌, ◌*◌, ◌≤◌, ◌<◌}
 use native.Mathlib.Omega.{arith}
-use lib.ListN.{length, get_or, set, drop, length-set, length-append, length-drop, get_or-append}
+use lib.ListN.{length, get_or, set, take, drop, length-set, length-append, length-take, length-drop, get_or-append}
+use borrow.Author.Rules.{rules}
+use borrow.Rule.Slice.PartMut.{put_mid}
+use Rattle.std.proofs.lemmas.Slice.{overwrites}
+use Rattle.std.proofs.lemmas.List.{places}
 use lib.Seq.{get_or-set_same, get_or-set_other, get_or-append-add, get_or-drop, ext_get_or}
 use lib.Dec.{eqb, ltb}
 use borrow.Author.Tests.{ltb-true, ltb-false, eqb-true, eqb-false}
 use Rattle.maps.specs.Record.{byte}
 use Rattle.maps.specs.Table.{listed}
 use Rattle.laws.proofs.Tables.{length_listed, get_or_listed}
-use Rattle.taking.specs.Parts.{byte_from, Laid}
+use Rattle.taking.specs.Parts.{size_of, byte_from, entry_from, Laid}
 
 pub laid_none : (value : ℕ → ℕ) (at : ℕ) (slice : List ℕ) → Laid value at 0 slice slice
 laid_none value at slice = record { long = refl; written = λ d l. absurd (omega arith); kept = λ x o. refl }
@@ -57,6 +61,69 @@ laid_on {value} {part} {at} {m} {next} {k} {old} {mid} {new} total s t e all sam
         let z : at + d ≡ next + (d - m) = omega arith in
         let y : m + (d - m) ≡ d = omega arith in
         rw z (t.written (d - m) (omega arith) ∙ same (d - m) (omega arith) ∙ ap value y)
+
+-- a part of the slice, written anew
+pub laid_part : {value : ℕ → ℕ} (at m : ℕ) (old part : List ℕ) → at + m ≤ length old → length part ≡ m → ((d : ℕ) → d < m → get_or part d 0 ≡ value d) → Laid value at m old (put_mid at m old part)
+laid_part {value} at m old part l long same = record {
+  long = search (rules, overwrites);
+  written = λ d f. here d f ∙ same d f;
+  kept = λ x o. ⊎_elim (λ f. before x f) (λ f. after x f) o;
+}
+  where
+    here : (d : ℕ) → d < m → get_or (put_mid at m old part) (at + d) 0 ≡ get_or part d 0
+    here d f = search (rules, places)
+
+    before : (x : ℕ) → x < at → get_or (put_mid at m old part) x 0 ≡ get_or old x 0
+    before x f = search (rules, places)
+
+    after : (x : ℕ) → at + m ≤ x → get_or (put_mid at m old part) x 0 ≡ get_or old x 0
+    after x f = search (rules, places)
+
+-- values written into a part of the slice
+pub laid_within : {value : ℕ → ℕ} (a k at m : ℕ) (old part : List ℕ) → a + k ≤ length old → at + m ≤ k → Laid value at m (take k (drop a old)) part → Laid value (a + at) m old (put_mid a k old part)
+laid_within {value} a k at m old part l few s = record {
+  long = search (rules, overwrites);
+  written = λ d f. let z : a + at + d ≡ a + (at + d) = omega arith in ap (λ (x : ℕ). get_or (put_mid a k old part) x 0) z ∙ here (at + d) (omega arith) ∙ s.written d f;
+  kept = λ x o. go x (ltb x a) refl (ltb x (a + k)) refl o;
+}
+  where
+    long : length part ≡ k
+    long = s.long ∙ simp (length-take, length-drop) (omega arith)
+
+    here : (d : ℕ) → d < k → get_or (put_mid a k old part) (a + d) 0 ≡ get_or part d 0
+    here d f = search (rules, places)
+
+    was : (d : ℕ) → d < k → get_or (take k (drop a old)) d 0 ≡ get_or old (a + d) 0
+    was d f = search (rules, places)
+
+    before : (x : ℕ) → x < a → get_or (put_mid a k old part) x 0 ≡ get_or old x 0
+    before x f = search (rules, places)
+
+    after : (x : ℕ) → a + k ≤ x → get_or (put_mid a k old part) x 0 ≡ get_or old x 0
+    after x f = search (rules, places)
+
+    inside : (d : ℕ) → d < k → (d < at) ⊎ (at + m ≤ d) → get_or (put_mid a k old part) (a + d) 0 ≡ get_or old (a + d) 0
+    inside d f o = here d f ∙ s.kept d o ∙ was d f
+
+    go : (x : ℕ) (p : Bool) → ltb x a ≡ p → (q : Bool) → ltb x (a + k) ≡ q → (x < a + at) ⊎ (a + at + m ≤ x) → get_or (put_mid a k old part) x 0 ≡ get_or old x 0
+    go x true e q f o = before x (ltb-true x a e)
+    go x false e false f o = after x (ltb-false x (a + k) f)
+    go x false e true f o =
+        let low = ltb-false x a e in
+        let high = ltb-true x (a + k) f in
+        let z : a + (x - a) ≡ x = omega arith in
+        rw z at (inside (x - a) (omega arith) (⊎_elim (λ g. inl (omega arith)) (λ g. inr (omega arith)) o))
+
+-- the bytes and the entries of a part of a record
+part_byte : (bytes : List ℕ) (from k i : ℕ) → i < k → byte (take k (drop from bytes)) i ≡ byte bytes (from + i)
+part_byte bytes from k i l = search (rules, places)
+
+pub part_entry : (bytes : List ℕ) (one : Bool) (from N k d : ℕ) → k ≡ size_of N one → d < N → entry_from (take k (drop from bytes)) one 0 d ≡ entry_from bytes one from d
+part_entry bytes true from N k d e l = let z : 0 + d ≡ d = omega arith in rw z (part_byte bytes from k d (omega arith))
+part_entry bytes false from N k d e l =
+    let z : 0 + 2 * d ≡ 2 * d = omega arith in
+    let y : from + (2 * d + 1) ≡ from + 2 * d + 1 = omega arith in
+    rw z (ap₂ (λ (x y : ℕ). x + 256 * y) (part_byte bytes from k (2 * d) (omega arith)) (part_byte bytes from k (2 * d + 1) (omega arith) ∙ ap (byte bytes) y))
 
 -- at the front: a list of these values, and what a longer slice has after it
 pub laid_front : {value : ℕ → ℕ} {m : ℕ} {old new : List ℕ} (list : List ℕ) → length list ≡ m → ((x : ℕ) → x < m → get_or list x 0 ≡ value x) → Laid value 0 m old new → m ≤ length old → new ≡ list ++ drop m old

@@ -1,12 +1,12 @@
 -- What an answer says, in the definitions' values. Assumes nothing: these are definitions.
-use Rattle.std.specs.Prelude.{List, ℕ}
+use Rattle.std.specs.Prelude.{List, ℕ, Result, Ok, Err}
 use Rattle.maps.specs.Verdict.{Verdict, accepted, if_accepted}
 use Rattle.maps.specs.Record.{Allowed as AllowedRows, wide, either, record_dimension, record_height, record_darts, record_lent, take_lent}
 use Rattle.answers.specs.Numbers.{refusal_of}
 use Rattle.taking.specs.declared.Allowed.{Allowed}
 use Rattle.taking.specs.declared.Allowed.TheVariants.{Wide, Either}
-use Rattle.taking.specs.declared.Taken.{Taken}
-use Rattle.taking.specs.declared.Taken.TheVariants.{Record, Refused}
+use Rattle.answers.specs.declared.Refusal.{Refusal}
+use Rattle.answers.specs.declared.Sizes.{Sizes}
 
 -- a verdict and n, h and N
 pub record Outcome : Type 0 where
@@ -20,9 +20,9 @@ abbrev pub saying : Verdict → ℕ → ℕ → ℕ → Outcome
 saying v n h N = record { verdict = v; dimension = if_accepted v n 0; height = if_accepted v h 0; darts = if_accepted v N 0 }
 
 -- number and values for each answer
-abbrev pub taken_of : Taken → Outcome
-taken_of (Record sizes) = saying accepted sizes.n.0 sizes.h.0 sizes.darts
-taken_of (Refused r) = saying (refusal_of r) 0 0 0
+abbrev pub taken_of : Result Sizes Refusal → Outcome
+taken_of (Ok sizes) = saying accepted sizes.n.0 sizes.h.0 sizes.darts
+taken_of (Err r) = saying (refusal_of r) 0 0 0
 
 -- the rows that a reader allows
 abbrev pub allowed_of : Allowed → AllowedRows

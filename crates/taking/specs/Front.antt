@@ -20,7 +20,11 @@ behind sizes rows = drop (entries_of sizes) rows
 abbrev pub front : Sizes → List ℕ → List ℕ → List ℕ → Folded
 front sizes rows lambda delta = pyramid sizes (front_of sizes rows) (take sizes.darts lambda) (take sizes.darts delta)
 
--- its sizes are in range, and rows, Λ, Δ and a table are long enough for it
+-- its sizes are in range, and rows, Λ and Δ are long enough for it
+abbrev pub FrontOf : Sizes → List ℕ → List ℕ → List ℕ → Type 0
+FrontOf sizes rows lambda delta = (sizes.n.0 ≤ 4) × (sizes.darts ≤ 4096) × (entries_of sizes ≤ length rows) × (sizes.darts ≤ length lambda) × (sizes.darts ≤ length delta)
+
+-- and so is a table
 abbrev pub InFront : Sizes → List ℕ → List ℕ → List ℕ → List ℕ → Type 0
 InFront sizes rows lambda delta table =
     (sizes.n.0 ≤ 4) × (sizes.darts ≤ 4096) × (entries_of sizes ≤ length rows) × (sizes.darts ≤ length lambda) × (sizes.darts ≤ length delta) × (entries_of sizes ≤ length table)

@@ -8,19 +8,12 @@ ghost use Rattle.std.specs.Prelude.{◌≡◌, ◌++◌};
 ghost use Rattle.maps.specs.CheckPyramid.{check_lent, check_leaves};
 ghost use Rattle.maps.specs.Record.{wide, either, take_rows, take_lambda, take_delta, take_table};
 ghost use Rattle.answers.specs.Numbers.{verdict_of};
+ghost use Rattle.answers.specs.Pyramid.{folded};
 ghost use Rattle.taking.specs.Answers.{allowed_of, taken_of, taken};
-ghost use Rattle.taking.specs.Front.{front, front_of, behind, InFront};
+ghost use Rattle.taking.specs.Front.{front, front_of, behind, FrontOf, InFront};
 
-use answers::{Check, Refusal, Sizes};
-pub use copying::{copy_bytes, copy_few_bytes};
+use answers::{Pyramid, Refusal, Sizes};
 use unpacking::unpack;
-
-// The answer: n, h and N, or why the record is refused.
-#[derive(Clone, Copy)]
-pub enum Taken {
-    Record(Sizes),
-    Refused(Refusal),
-}
 
 // The rows that a reader allows: of two bytes an entry alone, or of either kind, as old records may have them.
 #[derive(Clone, Copy)]
@@ -29,21 +22,31 @@ pub(crate) enum Allowed {
     Either,
 }
 
-// The check of a pyramid that stands at the front of slices.
-fn check_front(sizes: Sizes, rows: &[u16], lambda: &[u8], delta: &[u8], table: &mut [u16]) -> Check
-    requires { InFront sizes rows.now lambda.now delta.now table.old }
-    ensures verdict { verdict_of result ≡ check_lent (front sizes rows.now lambda.now delta.now) (front_of sizes table.old) }
-    ensures table_left { table.new ≡ check_leaves (front sizes rows.now lambda.now delta.now) (front_of sizes table.old) ++ behind sizes table.old }
+// The pyramid that stands at the front of slices, which may be longer.
+pub fn at_front<'a>(pyramid: &Pyramid<'a>) -> Pyramid<'a>
+    requires { FrontOf pyramid.now.sizes pyramid.now.rows.now pyramid.now.lambda.now pyramid.now.delta.now }
+    ensures sizes { result.sizes ≡ pyramid.now.sizes }
+    ensures parts { folded result ≡ front pyramid.now.sizes pyramid.now.rows.now pyramid.now.lambda.now pyramid.now.delta.now }
 {
+    let sizes = pyramid.sizes;
     let width = sizes.darts as usize;
     let size = answers::entries(sizes.n, sizes.darts);
-    checking::check(
+    Pyramid {
         sizes,
-        &rows[..size],
-        &lambda[..width],
-        &delta[..width],
-        &mut table[..size],
-    )
+        rows: &pyramid.rows[..size],
+        lambda: &pyramid.lambda[..width],
+        delta: &pyramid.delta[..width],
+    }
+}
+
+// The check of a pyramid that stands at the front of slices.
+fn check_front(pyramid: &Pyramid<'_>, table: &mut [u16]) -> Result<(), Refusal>
+    requires { InFront pyramid.now.sizes pyramid.now.rows.now pyramid.now.lambda.now pyramid.now.delta.now table.old }
+    ensures verdict { verdict_of result ≡ check_lent (front pyramid.now.sizes pyramid.now.rows.now pyramid.now.lambda.now pyramid.now.delta.now) (front_of pyramid.now.sizes table.old) }
+    ensures table_left { table.new ≡ check_leaves (front pyramid.now.sizes pyramid.now.rows.now pyramid.now.lambda.now pyramid.now.delta.now) (front_of pyramid.now.sizes table.old) ++ behind pyramid.now.sizes table.old }
+{
+    let size = answers::entries(pyramid.sizes.n, pyramid.sizes.darts);
+    checking::check(&at_front(pyramid), &mut table[..size])
 }
 
 // A record with the rows that are allowed. Nothing lent is written before the whole record is known to be good; what the check then refuses is left in the lent rows and marks.
@@ -54,22 +57,22 @@ fn take_allowed(
     lambda: &mut [u8],
     delta: &mut [u8],
     table: &mut [u16],
-) -> Taken
+) -> Result<Sizes, Refusal>
     ensures answer { taken_of result ≡ taken bytes.now (allowed_of allowed) rows.old lambda.old delta.old table.old }
     ensures rows_left { rows.new ≡ take_rows bytes.now (allowed_of allowed) rows.old lambda.old delta.old table.old }
     ensures lambda_left { lambda.new ≡ take_lambda bytes.now (allowed_of allowed) rows.old lambda.old delta.old table.old }
     ensures delta_left { delta.new ≡ take_delta bytes.now (allowed_of allowed) rows.old lambda.old delta.old table.old }
     ensures table_left { table.new ≡ take_table bytes.now (allowed_of allowed) rows.old lambda.old delta.old table.old }
 {
-    match unpack(bytes, allowed, rows, lambda, delta, table) {
-        Taken::Refused(r) => Taken::Refused(r),
-        Taken::Record(sizes) => {
-            if let Check::Refused(r) = check_front(sizes, rows, lambda, delta, table) {
-                return Taken::Refused(r);
-            }
-            Taken::Record(sizes)
-        }
-    }
+    let sizes = unpack(bytes, allowed, rows, lambda, delta, table)?;
+    let lent = Pyramid {
+        sizes,
+        rows: &*rows,
+        lambda: &*lambda,
+        delta: &*delta,
+    };
+    check_front(&lent, table)?;
+    Ok(sizes)
 }
 
 // Take a record: its rows have two bytes an entry.
@@ -79,7 +82,7 @@ pub fn take(
     lambda: &mut [u8],
     delta: &mut [u8],
     table: &mut [u16],
-) -> Taken
+) -> Result<Sizes, Refusal>
     ensures answer { taken_of result ≡ taken bytes.now wide rows.old lambda.old delta.old table.old }
     ensures rows_left { rows.new ≡ take_rows bytes.now wide rows.old lambda.old delta.old table.old }
     ensures lambda_left { lambda.new ≡ take_lambda bytes.now wide rows.old lambda.old delta.old table.old }
@@ -96,7 +99,7 @@ pub fn take_old(
     lambda: &mut [u8],
     delta: &mut [u8],
     table: &mut [u16],
-) -> Taken
+) -> Result<Sizes, Refusal>
     ensures answer { taken_of result ≡ taken bytes.now either rows.old lambda.old delta.old table.old }
     ensures rows_left { rows.new ≡ take_rows bytes.now either rows.old lambda.old delta.old table.old }
     ensures lambda_left { lambda.new ≡ take_lambda bytes.now either rows.old lambda.old delta.old table.old }

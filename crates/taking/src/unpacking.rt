@@ -5,91 +5,43 @@ ghost use Rattle.maps.specs.Sizes.{sizes as sizes_of};
 ghost use Rattle.maps.specs.Record.{one_byte_by, field as field_of, take_rows, take_lambda, take_delta};
 ghost use Rattle.answers.specs.Numbers.{verdict_of};
 ghost use Rattle.taking.specs.Answers.{allowed_of, taken_of, unpacked};
-ghost use Rattle.taking.specs.Kinds.{kind_of, tag_of, Due, Says};
+ghost use Rattle.taking.specs.Kinds.{kind_of, tag_of, Due};
 ghost use Rattle.taking.specs.Parts.{size_of, marks_at, row_field, room_of, rest_of, byte_from, entry_from, table_entry, Laid};
 ghost use Rattle.taking.specs.Front.{entries_of, lambda_from, delta_from, Whole};
 
-use super::copying::{copy_bytes, copy_narrow, copy_wide};
-use super::{Allowed, Taken};
-use answers::{Check, Dim, Level, Refusal, Sizes};
+use super::Allowed;
+use super::copying::{copy_narrow, copy_wide};
+use answers::{Dim, Level, Refusal, Sizes};
 
 // What a tag says; a row's tag says which row.
-#[derive(Clone, Copy)]
+#[derive(Clone, Copy, PartialEq, Eq)]
 enum Kind {
     Header,
     Wide(Dim),
     Narrow(Dim),
     Lambda,
     Delta,
-    Other,
 }
 
-// What a tag says: this match alone decides it. `Narrow` rows, of one byte an entry, are those of old records; whether a reader allows them `one_byte` decides.
-fn kind_of(tag: u8) -> Kind
+// What a tag says, if anything: this match alone decides it. `Narrow` rows, of one byte an entry, are those of old records; whether a reader allows them `one_byte` decides.
+fn kind_of(tag: u8) -> Option<Kind>
     ensures { result ≡ kind_of tag }
 {
     match tag {
-        0x10..=0x14 => Kind::Wide(Dim(tag - 0x10)),
-        0x20..=0x24 => Kind::Narrow(Dim(tag - 0x20)),
-        0x01 => Kind::Header,
-        0x30 => Kind::Lambda,
-        0x31 => Kind::Delta,
-        _ => Kind::Other,
+        0x10..=0x14 => Some(Kind::Wide(Dim(tag - 0x10))),
+        0x20..=0x24 => Some(Kind::Narrow(Dim(tag - 0x20))),
+        0x01 => Some(Kind::Header),
+        0x30 => Some(Kind::Lambda),
+        0x31 => Some(Kind::Delta),
+        _ => None,
     }
-}
-
-// Is a kind the one that is due? No field is due with another tag.
-fn is_due(kind: Kind, due: Kind) -> bool
-    requires { Due due }
-    ensures { Says result (kind ≡ due) }
-{
-    match due {
-        Kind::Header => match kind {
-            Kind::Header => true,
-            _ => false,
-        },
-        Kind::Wide(i) => match kind {
-            Kind::Wide(row) => row.0 == i.0,
-            _ => false,
-        },
-        Kind::Narrow(i) => match kind {
-            Kind::Narrow(row) => row.0 == i.0,
-            _ => false,
-        },
-        Kind::Lambda => match kind {
-            Kind::Lambda => true,
-            _ => false,
-        },
-        Kind::Delta => match kind {
-            Kind::Delta => true,
-            _ => false,
-        },
-        Kind::Other => false,
-    }
-}
-
-// A byte as a wider number.
-pub(crate) fn wide(x: u8) -> u16
-    ensures { result ≡ x }
-{
-    x as u16
-}
-
-// Two bytes, low byte first.
-pub(crate) fn two_bytes(low: u8, high: u8) -> u16
-    ensures { result ≡ low + 256 * high }
-{
-    wide(low) + 256 * wide(high)
 }
 
 // A byte, or 0 where there is none.
 fn byte_at(bytes: &[u8], at: usize) -> u8
     ensures { result ≡ get_or bytes.now at 0 }
 {
-    if bytes.len() <= at {
-        return 0;
-    }
-    bytes[at]
+    bytes.get(at).copied().unwrap_or(0)
 }
 
 // The first row's tag settles the kind: has an entry one byte?
@@ -99,52 +51,41 @@ fn one_byte(bytes: &[u8], allowed: Allowed, darts: u16) -> bool
     match allowed {
         Allowed::Wide => false,
         Allowed::Either => {
-            let narrow = is_due(kind_of(byte_at(bytes, 7)), Kind::Narrow(Dim(0)));
-            answers::both(narrow, darts <= 256)
+            kind_of(byte_at(bytes, 7)) == Some(Kind::Narrow(Dim(0))) && darts <= 256
         }
     }
 }
 
-// The first of two checks where it refuses, else the second.
-fn first_of(first: Check, second: Check) -> Check
-    ensures { verdict_of result ≡ (verdict_of first then verdict_of second) }
-{
-    match first {
-        Check::Refused(r) => Check::Refused(r),
-        Check::Accepted => second,
-    }
-}
-
 // The field at an offset: 16, 17 and 18 in the document's order.
-fn field(bytes: &[u8], at: u16, due: Kind, size: u16) -> Check
+fn field(bytes: &[u8], at: u16, due: Kind, size: u16) -> Result<(), Refusal>
     requires { (at ≤ 50000) × (size ≤ 8192) × Due due }
     ensures { verdict_of result ≡ field_of bytes.now at (tag_of due) size }
 {
     let start = at as usize;
     if bytes.len() <= start {
-        return Check::Refused(Refusal::EndsEarly(at));
+        return Err(Refusal::EndsEarly(at));
     }
-    if !is_due(kind_of(bytes[start]), due) {
-        return Check::Refused(Refusal::OtherTag(at));
+    if kind_of(bytes[start]) != Some(due) {
+        return Err(Refusal::OtherTag(at));
     }
     if bytes.len() < start + 3 {
-        return Check::Refused(Refusal::EndsEarly(at));
+        return Err(Refusal::EndsEarly(at));
     }
-    let length_at = start + 1;
-    if two_bytes(bytes[length_at], bytes[length_at + 1]) != size {
-        return Check::Refused(Refusal::WrongLength(at));
+    if u16::from_le_bytes([bytes[start + 1], bytes[start + 2]]) != size {
+        return Err(Refusal::WrongLength(at));
     }
     if bytes.len() < start + 3 + size as usize {
-        return Check::Refused(Refusal::EndsEarly(at));
+        return Err(Refusal::EndsEarly(at));
     }
-    Check::Accepted
+    Ok(())
 }
 
 // The header's field, then its values: 1, 2, 3.
-fn header(bytes: &[u8], sizes: Sizes) -> Check
+fn header(bytes: &[u8], sizes: Sizes) -> Result<(), Refusal>
     ensures { verdict_of result ≡ (field_of bytes.now 0 0x01 4 then sizes_of sizes.n.0 sizes.darts sizes.h.0) }
 {
-    first_of(field(bytes, 0, Kind::Header, 4), answers::in_range(sizes))
+    field(bytes, 0, Kind::Header, 4)?;
+    answers::in_range(sizes)
 }
 
 // The bytes of a row's body.
@@ -174,22 +115,19 @@ fn marks_at(n: Dim, darts: u16, one: bool) -> u16
     requires { (n.0 ≤ 4) × (darts ≤ 4096) }
     ensures { (result ≡ marks_at n.0 darts one) × (result ≤ 40982) }
 {
-    7 + (wide(n.0) + 1) * (3 + row_size(darts, one))
+    7 + (u16::from(n.0) + 1) * (3 + row_size(darts, one))
 }
 
 // The fields of rows 0 to n.
-fn row_fields(bytes: &[u8], n: Dim, one: bool, size: u16) -> Check
+fn row_fields(bytes: &[u8], n: Dim, one: bool, size: u16) -> Result<(), Refusal>
     requires { (n.0 ≤ 4) × (size ≤ 8192) }
     ensures { verdict_of result ≡ scan (suc n.0) (row_field bytes.now one size) }
 {
-    let mut at: u16 = 7;
     for i in 0..n.0 + 1 {
-        match field(bytes, at, row_kind(Dim(i), one), size) {
-            Check::Refused(r) => return Check::Refused(r),
-            Check::Accepted => at = at + (3 + size),
-        }
+        let at = 7 + u16::from(i) * (3 + size);
+        field(bytes, at, row_kind(Dim(i), one), size)?;
     }
-    Check::Accepted
+    Ok(())
 }
 
 // Are lent slices of these lengths long enough?
@@ -198,49 +136,46 @@ fn long_enough(n: Dim, darts: u16, rows: usize, lambda: usize, delta: usize, tab
 {
     let due = darts as usize;
     let all = answers::entries(n, darts);
-    let marks = answers::both(due <= delta, all <= table);
-    let below = answers::both(due <= lambda, marks);
-    answers::both(all <= rows, below)
+    all <= rows && due <= lambda && due <= delta && all <= table
 }
 
 // Numbers 19 and 4: `length` bytes of which the record ends at `end`.
-fn room(length: usize, end: u16, enough: bool) -> Check
+fn room(length: usize, end: u16, enough: bool) -> Result<(), Refusal>
     ensures { verdict_of result ≡ room_of length end enough }
 {
     if (end as usize) < length {
-        return Check::Refused(Refusal::BytesAfter(end));
+        return Err(Refusal::BytesAfter(end));
     }
     if !enough {
-        return Check::Refused(Refusal::Length);
+        return Err(Refusal::Length);
     }
-    Check::Accepted
+    Ok(())
 }
 
 // All that is tested after the header: the fields of the rows, Λ and Δ, then 19 and 4.
-fn rest(bytes: &[u8], n: Dim, darts: u16, one: bool, enough: bool) -> Check
+fn rest(bytes: &[u8], n: Dim, darts: u16, one: bool, enough: bool) -> Result<(), Refusal>
     requires { (n.0 ≤ 4) × (darts ≤ 4096) }
     ensures { verdict_of result ≡ rest_of bytes.now n.0 darts one enough }
 {
     let at = marks_at(n, darts, one);
     let next = at + (3 + darts);
     let end = next + (3 + darts);
-    let rows = row_fields(bytes, n, one, row_size(darts, one));
-    let lambda = field(bytes, at, Kind::Lambda, darts);
-    let delta = field(bytes, next, Kind::Delta, darts);
-    let marks = first_of(lambda, first_of(delta, room(bytes.len(), end, enough)));
-    first_of(rows, marks)
+    row_fields(bytes, n, one, row_size(darts, one))?;
+    field(bytes, at, Kind::Lambda, darts)?;
+    field(bytes, next, Kind::Delta, darts)?;
+    room(bytes.len(), end, enough)
 }
 
 // A row of either kind.
-fn copy_row(bytes: &[u8], from: usize, one: bool, count: usize, to: &mut [u16], at: usize)
-    requires { (from + size_of count one ≤ length bytes.now) × (at + count ≤ length to.old) }
-    ensures { Laid (entry_from bytes.now one from) at count to.old to.new }
+fn copy_row(body: &[u8], one: bool, row: &mut [u16])
+    requires { length body.now ≡ size_of (length row.old) one }
+    ensures { Laid (entry_from body.now one 0) 0 (length row.old) row.old row.new }
 {
     if one {
-        copy_narrow(bytes, from, count, to, at);
+        copy_narrow(body, row);
         return;
     }
-    copy_wide(bytes, from, count, to, at);
+    copy_wide(body, row);
 }
 
 // All rows, to the front of the lent rows.
@@ -249,13 +184,11 @@ fn copy_rows(bytes: &[u8], n: Dim, darts: u16, one: bool, rows: &mut [u16])
     ensures { Laid (table_entry bytes.now darts one) 0 (suc n.0 * darts) rows.old rows.new }
 {
     let count = darts as usize;
-    let step = 3 + row_size(darts, one) as usize;
-    let mut from: usize = 10;
-    let mut at: usize = 0;
-    for _i in 0..n.0 + 1 {
-        copy_row(bytes, from, one, count, rows, at);
-        from = from + step;
-        at = at + count;
+    let size = row_size(darts, one) as usize;
+    for i in 0..n.0 as usize + 1 {
+        let from = 7 + i * (3 + size) + 3;
+        let at = i * count;
+        copy_row(&bytes[from..from + size], one, &mut rows[at..at + count]);
     }
 }
 
@@ -275,10 +208,14 @@ fn copy_all(
 {
     let darts = sizes.darts;
     let count = darts as usize;
-    let at = marks_at(sizes.n, darts, one) as usize;
+    let lambda_from = marks_at(sizes.n, darts, one) as usize + 3;
+    let delta_from = lambda_from + count + 3;
     copy_rows(bytes, sizes.n, darts, one, rows);
-    copy_bytes(bytes, at + 3, count, lambda, 0);
-    copy_bytes(bytes, at + (3 + count) + 3, count, delta, 0);
+    answers::copy(
+        &bytes[lambda_from..lambda_from + count],
+        &mut lambda[..count],
+    );
+    answers::copy(&bytes[delta_from..delta_from + count], &mut delta[..count]);
 }
 
 // Unpack a record into lent tables: nothing lent is written before the whole record is known to be good. Of the table that its check is lent, the length is tested.
@@ -289,7 +226,7 @@ pub(crate) fn unpack(
     lambda: &mut [u8],
     delta: &mut [u8],
     table: &[u16],
-) -> Taken
+) -> Result<Sizes, Refusal>
     ensures answer { taken_of result ≡ unpacked bytes.now (allowed_of allowed) rows.old lambda.old delta.old table.now }
     ensures rows_left { rows.new ≡ take_rows bytes.now (allowed_of allowed) rows.old lambda.old delta.old table.now }
     ensures lambda_left { lambda.new ≡ take_lambda bytes.now (allowed_of allowed) rows.old lambda.old delta.old table.now }
@@ -297,16 +234,12 @@ pub(crate) fn unpack(
 {
     let n = Dim(byte_at(bytes, 3));
     let h = Level(byte_at(bytes, 4));
-    let darts = two_bytes(byte_at(bytes, 5), byte_at(bytes, 6));
+    let darts = u16::from_le_bytes([byte_at(bytes, 5), byte_at(bytes, 6)]);
     let sizes = Sizes { n, h, darts };
-    if let Check::Refused(r) = header(bytes, sizes) {
-        return Taken::Refused(r);
-    }
+    header(bytes, sizes)?;
     let one = one_byte(bytes, allowed, darts);
     let enough = long_enough(n, darts, rows.len(), lambda.len(), delta.len(), table.len());
-    if let Check::Refused(r) = rest(bytes, n, darts, one, enough) {
-        return Taken::Refused(r);
-    }
+    rest(bytes, n, darts, one, enough)?;
     copy_all(bytes, sizes, one, rows, lambda, delta);
-    Taken::Record(sizes)
+    Ok(sizes)
 }

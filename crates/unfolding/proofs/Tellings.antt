@@ -1,19 +1,19 @@
 -- What is told so far, level after level, of the blocks of an accepted pyramid. Assumes nothing.
 use mathlib.Core.Path.{◌≡◌, refl, sym, ap, subst, ◌∙◌}
 use mathlib.Core.Bool.{Bool, true, false, cond}
-use mathlib.Core.List.{List, ◌++◌}
-use Prim.Native.Nat.{ℕ, suc, ◌+◌, ◌-◌, ◌*◌, ◌≤◌, ◌<◌}
+use mathlib.Core.List.{List}
+use Prim.Native.Nat.{ℕ, suc, ◌+◌, ◌-◌, ◌*◌, ◌≤◌, ◌<◌, zero-le}
 use native.Mathlib.Nat.{mul-le-mul_right, suc-mul}
 use native.Mathlib.Omega.{arith}
-use lib.ListN.{length, get_or, set, take, drop, replicate, length-set, get_or-replicate}
-use lib.Seq.{get_or-take, take_at}
+use lib.ListN.{length, get_or, set, take, drop, replicate, length-set, length-drop, get_or-replicate}
+use lib.Seq.{length-take-le, get_or-take}
 use lib.Dec.{ltb}
 use borrow.Author.Tests.{ltb-true, ltb-false}
-use Rattle.maps.specs.Table.{entry, each, listed}
+use Rattle.maps.specs.Table.{entry, each}
 use Rattle.maps.specs.Folded.{Folded}
 use Rattle.maps.specs.CheckPyramid.{table_at}
 use Rattle.maps.specs.UnfoldAll.{by_level, total_at, latest_at}
-use Rattle.laws.proofs.Tables.{listed_of, get_or_listed, table_size, in_table}
+use Rattle.laws.proofs.Tables.{listed_of, table_size, in_table}
 use Rattle.kernels.specs.Strings.{kernel_row, Linked, Strung}
 use Rattle.kernels.specs.Ready.{Ready}
 use Rattle.climbing.proofs.Rows.{RowTo, row_none, row_set}
@@ -30,12 +30,12 @@ pub record Here (f : Folded) (tables : List ℕ) (L : Levels f tables) (found fo
   pub since_told : RowTo (latest_at f) l found-since since
 
 -- all levels are told
-pub all_told : (value : ℕ → ℕ) (h : ℕ) (counts : List ℕ) → h ≤ 32 → RowTo value (h + 1) (listed (λ _. 0) 33) counts → length counts ≡ 33 → counts ≡ by_level h value
+pub all_told : (value : ℕ → ℕ) (h : ℕ) (counts : List ℕ) → h ≤ 32 → RowTo value (h + 1) (replicate 33 0) counts → length counts ≡ 33 → counts ≡ by_level h value
 unfolding by_level
 all_told value h counts k r long = listed_of _ 33 counts long (λ l lt. go l lt (ltb h l) refl)
   where
     go : (l : ℕ) → l < 33 → (x : Bool) → ltb h l ≡ x → get_or counts l 0 ≡ cond (ltb h l) 0 (value l)
-    go l lt true q = rw q (r.rest l (omega (arith, ltb-true h l q)) ∙ get_or_listed (λ _. 0) 33 l 0 lt)
+    go l lt true q = rw q (r.rest l (omega (arith, ltb-true h l q)) ∙ get_or-replicate 33 l 0 0 lt)
     go l lt false q = rw q (r.done l (omega (arith, ltb-false h l q)))
 
 module _ (f : Folded) (tables : List ℕ) (L : Levels f tables) (l : ℕ) (k : l < f.h) (size from : ℕ) (size_is : size ≡ suc f.n * f.N) (from_is : from ≡ l * size) where
@@ -101,34 +101,55 @@ module _ (f : Folded) (tables : List ℕ) (L : Levels f tables) where
       latest_is e = e ∙ ap (λ (m : ℕ). latest_on n m lambda l stands) (based f L.accepts).lambda_long ∙ latest_told f L.accepts l k stands v.since_here
 
     -- the top level is told, and with it all are
-    pub here_counts : l ≡ h → found ≡ listed (λ _. 0) 33 → length counts ≡ 33 → {x : ℕ} → x ≡ total_on n (length lambda) lambda h reads → set counts h x ≡ by_level h (total_at f)
+    pub here_counts : l ≡ h → found ≡ replicate 33 0 → length counts ≡ 33 → {x : ℕ} → x ≡ total_on n (length lambda) lambda h reads → set counts h x ≡ by_level h (total_at f)
     here_counts e z long {x} t =
         let k = height f L.accepts in
         let r = row_set v.counts_told (omega (arith, v.counts_told.long)) x (total_is (omega arith) (t ∙ ap (λ (m : ℕ). total_on n (length lambda) lambda m reads) (sym e))) in
-        let q : RowTo (total_at f) (h + 1) (listed (λ _. 0) 33) (set counts h x) = subst (λ (y : List ℕ). RowTo (total_at f) (h + 1) y (set counts h x)) z (subst (λ (y : ℕ). RowTo (total_at f) (y + 1) found (set counts y x)) e r) in
+        let q : RowTo (total_at f) (h + 1) (replicate 33 0) (set counts h x) = subst (λ (y : List ℕ). RowTo (total_at f) (h + 1) y (set counts h x)) z (subst (λ (y : ℕ). RowTo (total_at f) (y + 1) found (set counts y x)) e r) in
         all_told (total_at f) h (set counts h x) k q (length-set counts h x ∙ long)
 
-    pub here_since : l ≡ h → found-since ≡ listed (λ _. 0) 33 → length since ≡ 33 → {x : ℕ} → x ≡ latest_on n (length lambda) lambda h stands → set since h x ≡ by_level h (latest_at f)
+    pub here_since : l ≡ h → found-since ≡ replicate 33 0 → length since ≡ 33 → {x : ℕ} → x ≡ latest_on n (length lambda) lambda h stands → set since h x ≡ by_level h (latest_at f)
     here_since e z long {x} t =
         let k = height f L.accepts in
         let r = row_set v.since_told (omega (arith, v.since_told.long)) x (latest_is (omega arith) (t ∙ ap (λ (m : ℕ). latest_on n (length lambda) lambda m stands) (sym e))) in
-        let q : RowTo (latest_at f) (h + 1) (listed (λ _. 0) 33) (set since h x) = subst (λ (y : List ℕ). RowTo (latest_at f) (h + 1) y (set since h x)) z (subst (λ (y : ℕ). RowTo (latest_at f) (y + 1) found-since (set since y x)) e r) in
+        let q : RowTo (latest_at f) (h + 1) (replicate 33 0) (set since h x) = subst (λ (y : List ℕ). RowTo (latest_at f) (h + 1) y (set since h x)) z (subst (λ (y : ℕ). RowTo (latest_at f) (y + 1) found-since (set since y x)) e r) in
         all_told (latest_at f) h (set since h x) k q (length-set since h x ∙ long)
 
-  -- from one level to the next, in the fronts of longer tables
-  module _ {found found-since counts since : List ℕ} {l : ℕ} (reads stands : List ℕ) (size from : ℕ) (v : Here f tables L found found-since counts since (take size reads) (take size stands) l) (k : l < h) (size_is : size ≡ suc n * N) (from_is : from ≡ l * size)
-      (long : length counts ≡ 33) (long-since : length since ≡ 33) where
-    pub here_next : (X Y : List ℕ) → length X ≡ size → length Y ≡ size
-        → Led n N (kernel_row lambda delta l) (take (from + size - from) (drop from tables)) (counted n N (kernel_row lambda delta l) (take (from + size - from) (drop from tables)) (take size reads)) (take size reads) X
-        → Led n N (kernel_row lambda delta l) (take (from + size - from) (drop from tables)) (λ _ _. suc l) (take size stands) Y
-        → {x y : ℕ} → x ≡ total_on n (length lambda) lambda l (take size reads) → y ≡ latest_on n (length lambda) lambda l (take size stands)
-        → Here f tables L found found-since (set counts l x) (set since l y) (take size (X ++ drop size reads)) (take size (Y ++ drop size stands)) (l + 1)
-    here_next X Y lx ly led led-since {x} {y} t u =
+  -- from one level to the next
+  module _ {found found-since counts since : List ℕ} {l : ℕ} (reads stands : List ℕ) (size from : ℕ) (v : Here f tables L found found-since counts since reads stands l) (k : l < h) (size_is : size ≡ suc n * N) (from_is : from ≡ l * size) where
+    pub here_next : (X Y : List ℕ)
+        → Led n N (kernel_row lambda delta l) (take (from + size - from) (drop from tables)) (counted n N (kernel_row lambda delta l) (take (from + size - from) (drop from tables)) reads) reads X
+        → Led n N (kernel_row lambda delta l) (take (from + size - from) (drop from tables)) (λ _ _. suc l) stands Y
+        → {x y : ℕ} → x ≡ total_on n (length lambda) lambda l reads → y ≡ latest_on n (length lambda) lambda l stands
+        → length counts ≡ 33 → length since ≡ 33 → Here f tables L found found-since (set counts l x) (set since l y) X Y (l + 1)
+    here_next X Y led led-since {x} {y} t u long long-since =
         let z = height f L.accepts in
         let e : suc l ≡ l + 1 = omega arith in
         record {
-          counts_here = subst (λ (m : ℕ). CountsAt f L.accepts m (take size (X ++ drop size reads))) e (subst (λ (w : List ℕ). CountsAt f L.accepts (suc l) w) (sym (take_at X (drop size reads) size lx)) (counts_next f tables L l k size from size_is from_is (take size reads) X v.counts_here led));
-          since_here = subst (λ (m : ℕ). SinceAt f L.accepts m (take size (Y ++ drop size stands))) e (subst (λ (w : List ℕ). SinceAt f L.accepts (suc l) w) (sym (take_at Y (drop size stands) size ly)) (stands_next f tables L l k size from size_is from_is (take size stands) Y v.since_here led-since));
+          counts_here = subst (λ (m : ℕ). CountsAt f L.accepts m X) e (counts_next f tables L l k size from size_is from_is reads X v.counts_here led);
+          since_here = subst (λ (m : ℕ). SinceAt f L.accepts m Y) e (stands_next f tables L l k size from size_is from_is stands Y v.since_here led-since);
           counts_told = row_set v.counts_told (omega (arith, v.counts_told.long)) x (total_is v (omega arith) t);
           since_told = row_set v.since_told (omega (arith, v.since_told.long)) y (latest_is v (omega arith) u);
         }
+
+-- what the loop asks of the fronts of 20,480 numbers that are its tables, and of counts and levels since which
+module _ {f : Folded} {tables : List ℕ} (L : Levels f tables) where
+  open f use {n, N, h, lambda}
+
+  pub place : (l : ℕ) → l ≤ h → (told : List ℕ) → length told ≡ 33 → l < length told
+  place l k told long = let z = height f L.accepts in omega (arith, long)
+
+  module _ {size : ℕ} (is : size ≡ suc n * N) where
+    pub few : size ≤ 20480
+    few = let b = based f L.accepts in let t = table_size n N 0 b.dimension b.darts zero-le in omega (arith, is, t.1)
+
+    pub front_long : (numbers : List ℕ) → length numbers ≡ 20480 → length (take size numbers) ≡ size
+    front_long numbers long = let z = few in length-take-le size numbers (omega (arith, long))
+
+    pub table_asked : (numbers : List ℕ) → length numbers ≡ size → (n ≤ 4) × (length lambda ≤ 4096) × (length numbers ≡ suc n * length lambda)
+    table_asked numbers long = let b = based f L.accepts in (b.dimension, omega (arith, b.lambda_long, b.darts), long ∙ is ∙ ap (λ (x : ℕ). suc n * x) (sym b.lambda_long))
+
+    pub block_long : (l from : ℕ) → l < h → from ≡ l * size → length (take (from + size - from) (drop from tables)) ≡ size
+    block_long l from k from_is =
+        let r = part_room f tables L l k size from is from_is in
+        length-take-le (from + size - from) (drop from tables) (omega (arith, length-drop from tables, r.0)) ∙ omega arith

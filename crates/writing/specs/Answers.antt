@@ -1,13 +1,12 @@
 -- What an answer says, in the definitions' values. Assumes nothing: these are definitions.
-use Rattle.std.specs.Prelude.{◌≡◌, List, ◌++◌, ℕ, length, drop, leb}
+use Rattle.std.specs.Prelude.{◌≡◌, List, ◌++◌, ℕ, length, drop, leb, Result, Ok, Err}
 use Rattle.maps.specs.Verdict.{Verdict, accepted, if_accepted}
 use Rattle.maps.specs.Sizes.{number4}
 use Rattle.maps.specs.Folded.{Folded}
 use Rattle.maps.specs.CheckPyramid.{check_lent}
 use Rattle.maps.specs.Write.{record_of, write_lent, write_length}
 use Rattle.answers.specs.Numbers.{refusal_of}
-use Rattle.writing.specs.declared.Written.{Written}
-use Rattle.writing.specs.declared.Written.TheVariants.{Bytes, Refused}
+use Rattle.answers.specs.declared.Refusal.{Refusal}
 
 -- a verdict and a length
 pub record Outcome : Type 0 where
@@ -15,9 +14,9 @@ pub record Outcome : Type 0 where
   pub bytes : ℕ
 
 -- number and length for each answer
-abbrev pub written_of : Written → Outcome
-written_of (Bytes length) = record { verdict = accepted; bytes = length }
-written_of (Refused r) = record { verdict = refusal_of r; bytes = 0 }
+abbrev pub written_of : Result ℕ Refusal → Outcome
+written_of (Ok length) = record { verdict = accepted; bytes = length }
+written_of (Err r) = record { verdict = refusal_of r; bytes = 0 }
 
 -- what writing a record answers
 abbrev pub writing : Folded → List ℕ → List ℕ → Outcome

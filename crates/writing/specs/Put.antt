@@ -1,6 +1,5 @@
 -- The parts of a record as the functions put them into the buffer. Assumes nothing: these are definitions.
 use Rattle.std.specs.Prelude.{◌≡◌, List, [], ◌∷◌, ℕ, suc, ◌+◌, ◌*◌, ◌/◌, ◌%◌, ◌≤◌, length, get_or}
-use Rattle.maps.specs.Write.{in_two_bytes}
 use Rattle.answers.specs.declared.Sizes.{Sizes}
 use Rattle.taking.specs.Parts.{Laid}
 
@@ -17,10 +16,6 @@ CanHold sizes rows lambda delta bytes =
 -- the head of a field with this many bytes
 abbrev pub head_of : ℕ → ℕ → List ℕ
 head_of tag size = tag ∷ size % 256 ∷ size / 256 ∷ []
-
--- byte k of a row's body, counted from an entry on
-abbrev pub entry_byte : List ℕ → ℕ → ℕ → ℕ
-entry_byte row from k = get_or (in_two_bytes row) (2 * from + k) 0
 
 -- a list put into a slice from place `at` on, the rest untouched
 pub record Put (list : List ℕ) (at : ℕ) (old new : List ℕ) : Type 0 where

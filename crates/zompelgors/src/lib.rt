@@ -29,11 +29,10 @@ ghost use Rattle.starting_again.specs.Answers.{rebasing};
 ghost use Rattle.interface.specs.Flat.{refusal_for, reading_for, count_for, part_for, record_for, written_for, factor_for, base_for, version_for};
 ghost use Rattle.zompelgors.specs.Answers.{add_for, join_for, read_for, unfold_for, ExportFor};
 
-use answers::{AtLevel, Dim, Level, Question, Sizes};
+use answers::{AtLevel, Dim, Level, Pyramid, Question, Sizes};
 use interface::{
     ZgBase, ZgCount, ZgFactor, ZgHeight, ZgLink, ZgPart, ZgReading, ZgRecord, ZgRefusal,
-    ZgUnfolding, ZgWritten, base_as, count_as, factor_as, height_as, link_as, part_as, reading_as,
-    record_as, refusal_as, unfolding_as, written_as,
+    ZgUnfolding, ZgWritten, base_as, height_as, part_as,
 };
 use unfolding::unfold_all;
 
@@ -48,7 +47,7 @@ pub fn zg_version() -> u32
 pub fn zg_check_base(n: u8, darts: u16, rows: &[u16]) -> ZgRefusal
     ensures { result ≡ refusal_for (check_base n darts rows.now) }
 {
-    refusal_as(bases::check_base(Dim(n), darts, rows))
+    bases::check_base(Dim(n), darts, rows).into()
 }
 
 // Checks a whole pyramid.
@@ -69,7 +68,13 @@ pub fn zg_check(
         h: Level(h),
         darts,
     };
-    refusal_as(checking::check(sizes, rows, lambda, delta, table))
+    let pyramid = Pyramid {
+        sizes,
+        rows,
+        lambda,
+        delta,
+    };
+    checking::check(&pyramid, table).into()
 }
 
 // Adds a level on top.
@@ -117,7 +122,7 @@ pub fn zg_marks_of(
         h: Level(h),
         darts,
     };
-    refusal_as(marks_back::marks_of(sizes, lambda, delta, Level(level), marks))
+    marks_back::marks_of(sizes, lambda, delta, Level(level), marks).into()
 }
 
 // Reads one neighbour on a level by the direct walk, and since which level the link stands.
@@ -139,17 +144,21 @@ pub fn zg_read(
         h: Level(h),
         darts,
     };
-    link_as(reading::read(
+    let pyramid = Pyramid {
         sizes,
         rows,
         lambda,
         delta,
+    };
+    reading::read(
+        &pyramid,
         Question {
             level: Level(level),
             involution: Dim(involution),
             dart,
         },
-    ))
+    )
+    .into()
 }
 
 // Reads one neighbour on a level by readings one level lower each.
@@ -171,17 +180,21 @@ pub fn zg_read_by_levels(
         h: Level(h),
         darts,
     };
-    reading_as(by_levels::read_by_levels(
+    let pyramid = Pyramid {
         sizes,
         rows,
         lambda,
         delta,
+    };
+    by_levels::read_by_levels(
+        &pyramid,
         Question {
             level: Level(level),
             involution: Dim(involution),
             dart,
         },
-    ))
+    )
+    .into()
 }
 
 // Unfolds a whole level.
@@ -203,7 +216,13 @@ pub fn zg_unfold(
         h: Level(h),
         darts,
     };
-    unfolding_as(one_level::unfold(sizes, rows, lambda, delta, Level(level), table))
+    let pyramid = Pyramid {
+        sizes,
+        rows,
+        lambda,
+        delta,
+    };
+    one_level::unfold(&pyramid, Level(level), table).into()
 }
 
 // Checks a whole pyramid and unfolds all its levels, each in a block of its own, with the counts and the levels since which.
@@ -228,7 +247,13 @@ pub fn zg_unfold_all(
         h: Level(h),
         darts,
     };
-    refusal_as(unfold_all(sizes, rows, lambda, delta, tables, counts, since))
+    let pyramid = Pyramid {
+        sizes,
+        rows,
+        lambda,
+        delta,
+    };
+    unfold_all(&pyramid, tables, counts, since).into()
 }
 
 // Says where a row of a level lies.
@@ -261,7 +286,7 @@ pub fn zg_survivors(darts: u16, h: u8, lambda: &[u8], level: u8, words: &mut [u6
     ensures answer { result ≡ count_for (survivors_lent darts h lambda.now level words.old) (survivor_count darts h lambda.now level words.old) }
     ensures words_left { words.new ≡ survivor_words darts h lambda.now level words.old }
 {
-    count_as(survivor_words::survivors(darts, Level(h), lambda, Level(level), words))
+    survivor_words::survivors(darts, Level(h), lambda, Level(level), words).into()
 }
 
 // Marks cells of one dimension on an explicit level: those that are removable and fall into two parts, but for one of each piece that would vanish.
@@ -269,7 +294,7 @@ pub fn zg_mark_cells(n: u8, darts: u16, table: &[u16], dimension: u8, marks: &mu
     ensures answer { result ≡ refusal_for (mark_lent n darts table.now dimension marks.old) }
     ensures marks_left { MarkLeaves n darts table.now dimension marks.old (mark_lent n darts table.now dimension marks.old) marks.new }
 {
-    refusal_as(cells::mark_cells(Dim(n), darts, table, Dim(dimension), marks))
+    cells::mark_cells(Dim(n), darts, table, Dim(dimension), marks).into()
 }
 
 // Takes a record into lent memory and checks its pyramid; after 5 to 10 rows and marks hold what the record said.
@@ -286,7 +311,7 @@ pub fn zg_take(
     ensures delta_left { delta.new ≡ take_delta bytes.now wide rows.old lambda.old delta.old table.old }
     ensures table_left { table.new ≡ take_table bytes.now wide rows.old lambda.old delta.old table.old }
 {
-    record_as(taking::take(bytes, rows, lambda, delta, table))
+    taking::take(bytes, rows, lambda, delta, table).into()
 }
 
 // Writes the record of an accepted pyramid into a lent buffer; the table is left as the check leaves it.
@@ -309,7 +334,13 @@ pub fn zg_write(
         h: Level(h),
         darts,
     };
-    written_as(writing::write(sizes, rows, lambda, delta, table, bytes))
+    let pyramid = Pyramid {
+        sizes,
+        rows,
+        lambda,
+        delta,
+    };
+    writing::write(&pyramid, table, bytes).into()
 }
 
 // By which factor an accepted pyramid shrinks from a level to the next; the table is left as the check leaves it.
@@ -331,7 +362,13 @@ pub fn zg_decimation(
         h: Level(h),
         darts,
     };
-    factor_as(decimation::decimation(sizes, rows, lambda, delta, table, Level(level)))
+    let pyramid = Pyramid {
+        sizes,
+        rows,
+        lambda,
+        delta,
+    };
+    decimation::decimation(&pyramid, table, Level(level)).into()
 }
 
 // A census of an accepted pyramid, into 33 rows of five counts and 33 sums; the table is left as the check leaves it.
@@ -355,7 +392,13 @@ pub fn zg_census(
         h: Level(h),
         darts,
     };
-    refusal_as(counting::census_into(sizes, rows, lambda, delta, table, cells, sums))
+    let pyramid = Pyramid {
+        sizes,
+        rows,
+        lambda,
+        delta,
+    };
+    counting::census_into(&pyramid, table, cells, sums).into()
 }
 
 // Brings in a 2D combinatorial map of m darts as the rows of a base of 2m darts.
@@ -363,7 +406,7 @@ pub fn zg_import(m: u16, edges: &[u16], vertices: &[u16], rows: &mut [u16]) -> Z
     ensures answer { result ≡ refusal_for (import_lent m edges.now vertices.now rows.old) }
     ensures rows_left { ImportLeft m edges.now vertices.now rows.old rows.new }
 {
-    refusal_as(combinatorial::import(m, edges, vertices, rows))
+    combinatorial::import(m, edges, vertices, rows).into()
 }
 
 // Takes a base back to the two rows that yield it.
@@ -376,7 +419,7 @@ pub fn zg_export(
 ) -> ZgRefusal
     ensures { ExportFor n darts rows.now edges.old vertices.old result edges.new vertices.new }
 {
-    refusal_as(combinatorial::export(Dim(n), darts, rows, edges, vertices))
+    combinatorial::export(Dim(n), darts, rows, edges, vertices).into()
 }
 
 // Joins the kernels of a level and the next of an accepted pyramid; Λ and the height fall.

@@ -8,11 +8,11 @@ ghost use Rattle.answers.specs.Numbers.{verdict_of};
 ghost use Rattle.regions.specs.Searches.{NamingLeaves};
 ghost use Rattle.zompelgors_regions.specs.Flat.{refusal_for};
 
-use answers::{AtLevel, Check, Dim, Level, Sizes};
+use answers::{Dim, Level, Numbers, Pyramid, Refusal, Sizes};
 
 // The document's number and values; all 0 where accepted. The first library's struct of that name in C.
 #[repr(C)]
-#[derive(Clone, Copy)]
+#[derive(Clone, Copy, Default)]
 pub struct ZgRefusal {
     pub number: u16,
     pub level: u16,
@@ -21,25 +21,22 @@ pub struct ZgRefusal {
 }
 
 // The answer of a check.
-fn refusal_as(answer: Check) -> ZgRefusal
-    ensures { result ≡ refusal_for (verdict_of answer) }
-{
-    match answer {
-        Check::Accepted => ZgRefusal {
-            number: 0,
-            level: 0,
-            involution: 0,
-            dart: 0,
-        },
-        Check::Refused(why) => {
-            let x = answers::numbers_of(why);
-            ZgRefusal {
-                number: x.number,
-                level: x.level,
-                involution: x.involution,
-                dart: x.dart,
-            }
-        },
+impl From<Result<(), Refusal>> for ZgRefusal {
+    ghost from_gives = { λ answer said. said ≡ refusal_for (verdict_of answer) };
+
+    fn from(answer: Result<(), Refusal>) -> ZgRefusal {
+        match answer {
+            Ok(()) => ZgRefusal::default(),
+            Err(why) => {
+                let said = Numbers::from(why);
+                ZgRefusal {
+                    number: said.number,
+                    level: said.level,
+                    involution: said.involution,
+                    dart: said.dart,
+                }
+            },
+        }
     }
 }
 
@@ -64,9 +61,11 @@ pub fn zg_regions(
         h: Level(h),
         darts,
     };
-    let at = AtLevel {
+    let pyramid = Pyramid {
         sizes,
-        level: Level(level),
+        rows,
+        lambda,
+        delta,
     };
-    refusal_as(regions::name_regions(at, rows, lambda, delta, table, names))
+    regions::name_regions(&pyramid, Level(level), table, names).into()
 }

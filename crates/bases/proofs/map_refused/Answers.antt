@@ -1,36 +1,25 @@
 -- `bases::map_refused` meets its contract. Assumes nothing.
-use mathlib.Core.Path.{◌≡◌, sym, ap, ◌∙◌}
-use Rattle.maps.specs.Verdict.{accepted}
+use mathlib.Core.Path.{refl, sym}
 use Rattle.maps.specs.Check.{check_map}
-use Rattle.bases.specs.Places.{refused_at}
-use Rattle.bases.specs.InTable.{check5_in, check6_in}
+use Rattle.answers.proofs.Refusals.{told, passed_on, refused_then, refused_second}
 use Rattle.bases.proofs.map_refused.Goals as goal
 
-pub returns-in-At : goal.returns-in-At
+pub returns-in_err-number5 : goal.returns-in_err-number5
 unfolding check_map
-returns-in-At c = rw (sym c.first_stray.ensures ∙ ap (refused_at 5) c.in-At.is)
+returns-in_err-number5 c = rw (passed_on c.from_residual.result c.from_residual.ensures.1) (refused_then _ _ _ (told c.number5.ensures c.in_err-number5.was))
 
-pub returns-in-At-sought : goal.returns-in-At-sought
-unfolding check_map
-returns-in-At-sought c =
-    let five : let a = c.args in check5_in a.explicit a.n.0 a.darts a.table.now ≡ accepted =
-    sym c.first_stray.ensures ∙ ap (refused_at 5) c.in_default.is in
-    rw (five, sym c.sought.ensures ∙ ap (refused_at 6) c.in-At-sought.is)
+pub number6-requires : goal.number6-requires
+number6-requires c = (c.requires.0, sym (told c.number5.ensures c.in_ok-number5.was))
 
-pub returns-in-At-number7 : goal.returns-in-At-number7
+pub number7-requires : goal.number7-requires
+number7-requires c = (c.requires.0, sym (told c.number5.ensures c.in_ok-number5.was))
+
+pub returns-in_err-number6 : goal.returns-in_err-number6
 unfolding check_map
-returns-in-At-number7 c =
-    let five : let a = c.args in check5_in a.explicit a.n.0 a.darts a.table.now ≡ accepted =
-    sym c.first_stray.ensures ∙ ap (refused_at 5) c.in_default.is in
-    let six : let a = c.args in check6_in a.explicit a.n.0 a.darts a.table.now ≡ accepted =
-    sym c.sought.ensures ∙ ap (refused_at 6) c.in_default-sought.is in
-    rw (five, six, sym c.number7.ensures ∙ ap (refused_at 7) c.in-At-number7.is)
+returns-in_err-number6 c =
+    rw (passed_on c.from_residual-in_err-number6.result c.from_residual-in_err-number6.ensures.1)
+    (refused_second _ _ _ refl _ (told c.number5.ensures c.in_ok-number5.was) (refused_then _ _ _ (told c.number6.ensures c.in_err-number6.was)))
 
 pub returns : goal.returns
 unfolding check_map
-returns c =
-    let five : let a = c.args in check5_in a.explicit a.n.0 a.darts a.table.now ≡ accepted =
-    sym c.first_stray.ensures ∙ ap (refused_at 5) c.in_default.is in
-    let six : let a = c.args in check6_in a.explicit a.n.0 a.darts a.table.now ≡ accepted =
-    sym c.sought.ensures ∙ ap (refused_at 6) c.in_default-sought.is in
-    rw (five, six, sym c.number7.ensures ∙ ap (refused_at 7) c.in_default-number7.is)
+returns c = rw (← (told c.number5.ensures c.in_ok-number5.was), ← (told c.number6.ensures c.in_ok-number6.was)) c.number7.ensures

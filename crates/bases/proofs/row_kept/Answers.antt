@@ -1,4 +1,4 @@
--- `bases::row_kept` meets its contract. The invariant: a yes says that each entry passed is kept; the measure is the darts that are left. Assumes nothing.
+-- `bases::row_kept` meets its contract. The invariant: a yes says that each entry passed is kept. Assumes nothing.
 use borrow.Author.Count.{below_more}
 use Rattle.laws.proofs.Verdicts.{and_both}
 use Rattle.bases.proofs.row_kept.Goals as goal

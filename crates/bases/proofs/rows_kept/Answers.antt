@@ -1,4 +1,4 @@
--- `bases::rows_kept` meets its contract. The invariant: each entry of the rows passed is kept; the measure is the rows that are left. Assumes nothing.
+-- `bases::rows_kept` meets its contract. The invariant: each entry of the rows passed is kept. Assumes nothing.
 use borrow.Author.Count.{below_more}
 use Rattle.bases.proofs.rows_kept.Goals as goal
 

@@ -1,133 +1,33 @@
 -- `carrying::date` meets its contract. The invariant: the links that lead to darts passed have their new number, the others are as before. The measure is the darts left. Assumes nothing.
-use mathlib.Core.Path.{◌≡◌, sym, ap, ◌∙◌}
-use Prim.Native.Nat.{ℕ, suc, ◌<◌, ◌≤◌}
-use native.Mathlib.Omega.{arith}
-use Rattle.maps.specs.Mark.{is_mark, between}
-use Rattle.maps.specs.Table.{entry}
-use Rattle.laws.proofs.Marks.{mark_byte}
-use Rattle.kernels.specs.Strings.{kernel_row}
-use Rattle.kernels.specs.Ready.{Place}
-use Rattle.kernels.proofs.Strung.{in_kernel_lem, mark_is}
-use Rattle.kernels.proofs.Places.{place, place_still}
+use mathlib.Core.Path.{refl, ◌∙◌}
 use native.Mathlib.Numerals.{add-one}
-use Rattle.carrying.proofs.Leading.{LedTo, led_start, led_all, led_row, led_dart, put_as, kept_as}
-use Rattle.carrying.proofs.date.Goals.{then-not-removed, else-not-removed}
+use Rattle.kernels.proofs.Places.{place, place_still}
+use Rattle.carrying.proofs.Leading.{led_start, led_all, put_as, kept_as}
+use Rattle.carrying.proofs.date.Goals.{in-Some, in_default}
 use Rattle.carrying.proofs.date.Goals as goal
 
 pub loop-d-init : goal.loop-d-init
 loop-d-init c = let p = c.requires.can_take in led_start p.0 p.1.string
 
-pub between-rows-requires : goal.between-rows-requires
-between-rows-requires c =
-    let Row : ℕ → ℕ =
-    let a = c.args in kernel_row a.lambda.now a.delta.now a.kernel.level.0 in
-    let led : let a = c.args in LedTo a.kernel.n.0 a.kernel.darts (Row) a.block.now (λ _ _. suc a.kernel.level.0) a.since.now c.loop-d.since c.loop-d.d =
-    c.loop-d.invariant in
-    let mark : c.delta_at.result.0 ≡ Row c.loop-d.d =
-    let h = c in
-    let p = c.requires.can_take in
-    let ld = c.loop-d-test.true in
-    c.delta_at.ensures ∙ mark_is p.1.marks p.0.tested.shape.dimension h.loop-d.d ld ((led).here ld) in
-    let h = c in
-    let s = c in
-    let z = s.requires.can_take.0.tested.shape.dimension in
-    mark_byte s.args.kernel.n.0 c.delta_at.result.0 (omega arith) (rw (mark) ((led).here c.loop-d-test.true))
-
-pub at-b-requires : goal.at-b-requires
-at-b-requires c =
-    let Row : ℕ → ℕ =
-    let a = c.args in kernel_row a.lambda.now a.delta.now a.kernel.level.0 in
-    let led : let a = c.args in LedTo a.kernel.n.0 a.kernel.darts (Row) a.block.now (λ _ _. suc a.kernel.level.0) a.since.now c.loop-d.since c.loop-d.d =
-    c.loop-d.invariant in
-    let mark : c.delta_at.result.0 ≡ Row c.loop-d.d =
-    let h = c in
-    let p = c.requires.can_take in
-    let ld = c.loop-d-test.true in
-    c.delta_at.ensures ∙ mark_is p.1.marks p.0.tested.shape.dimension h.loop-d.d ld ((led).here ld) in
-    let first-row : c.between-rows.result.0.0 ≡ (between (Row c.loop-d.d)).0 =
-    c.between-rows.ensures.0 ∙ ap (λ (m : ℕ). (between m).0) (mark) in
-    let low : c.between-rows.result.0.0 ≤ c.args.kernel.n.0 =
-    let h = c in let p = c.requires.can_take in omega (arith, first-row, led_row p.0 p.1.string (led) c.loop-d-test.true) in
-    let h = c in place c.requires.can_take.0.tested.shape _ _ (low) c.loop-d-test.true
-
-pub removed-requires : goal.removed-requires
-removed-requires c =
-    let Row : ℕ → ℕ =
-    let a = c.args in kernel_row a.lambda.now a.delta.now a.kernel.level.0 in
-    let led : let a = c.args in LedTo a.kernel.n.0 a.kernel.darts (Row) a.block.now (λ _ _. suc a.kernel.level.0) a.since.now c.loop-d.since c.loop-d.d =
-    c.loop-d.invariant in
-    let mark : c.delta_at.result.0 ≡ Row c.loop-d.d =
-    let h = c in
-    let p = c.requires.can_take in
-    let ld = c.loop-d-test.true in
-    c.delta_at.ensures ∙ mark_is p.1.marks p.0.tested.shape.dimension h.loop-d.d ld ((led).here ld) in
-    let first-row : c.between-rows.result.0.0 ≡ (between (Row c.loop-d.d)).0 =
-    c.between-rows.ensures.0 ∙ ap (λ (m : ℕ). (between m).0) (mark) in
-    let leads-to : let h = c in let a = c.args in c.at-b.result ≡ entry a.kernel.darts a.block.now (between (Row h.loop-d.d)).0 h.loop-d.d =
-    let h = c in let a = c.args in c.at-b.ensures.0 ∙ ap (λ (x : ℕ). entry a.kernel.darts a.block.now x h.loop-d.d) (first-row) in
-    let dart : c.at-b.result < c.args.kernel.darts =
-    let h = c in let p = c.requires.can_take in omega (arith, leads-to, led_dart p.0 p.1.string (led) c.loop-d-test.true) in
-    omega (arith, dart, c.requires.can_take.1.marks.lambda_long)
+pub entering-requires : goal.entering-requires
+entering-requires c = (c.requires.can_take, c.loop-d-test.true, c.loop-d.invariant.here c.loop-d-test.true)
 
 pub put-requires : goal.put-requires
 put-requires c =
-    let Row : ℕ → ℕ =
-    let a = c.args in kernel_row a.lambda.now a.delta.now a.kernel.level.0 in
-    let led : let a = c.args in LedTo a.kernel.n.0 a.kernel.darts (Row) a.block.now (λ _ _. suc a.kernel.level.0) a.since.now c.loop-d.since c.loop-d.d =
-    c.loop-d.invariant in
-    let mark : c.delta_at.result.0 ≡ Row c.loop-d.d =
-    let h = c in
-    let p = c.requires.can_take in
-    let ld = c.loop-d-test.true in
-    c.delta_at.ensures ∙ mark_is p.1.marks p.0.tested.shape.dimension h.loop-d.d ld ((led).here ld) in
-    let first-row : c.between-rows.result.0.0 ≡ (between (Row c.loop-d.d)).0 =
-    c.between-rows.ensures.0 ∙ ap (λ (m : ℕ). (between m).0) (mark) in
-    let low : c.between-rows.result.0.0 ≤ c.args.kernel.n.0 =
-    let h = c in let p = c.requires.can_take in omega (arith, first-row, led_row p.0 p.1.string (led) c.loop-d-test.true) in
-    let leads-to : let h = c in let a = c.args in c.at-b.result ≡ entry a.kernel.darts a.block.now (between (Row h.loop-d.d)).0 h.loop-d.d =
-    let h = c in let a = c.args in c.at-b.ensures.0 ∙ ap (λ (x : ℕ). entry a.kernel.darts a.block.now x h.loop-d.d) (first-row) in
-    let dart : c.at-b.result < c.args.kernel.darts =
-    let h = c in let p = c.requires.can_take in omega (arith, leads-to, led_dart p.0 p.1.string (led) c.loop-d-test.true) in
-    let place_of : let h = c in Place c.args.kernel.darts c.args.block.now c.between-rows.result.0.0 c.at-b.result =
-    let h = c in place c.requires.can_take.0.tested.shape _ _ (low) (dart) in
-    let a = c in let h = c in place_still ((led).table.long ∙ c.requires.since_len) (place_of)
+    let e = c.in-Some.ensures in
+    place_still (c.loop-d.invariant.table.long ∙ c.requires.since_len) (place c.requires.can_take.0.tested.shape _ _ e.low e.inside)
 
 pub loop-d-preserved : goal.loop-d-preserved
 loop-d-preserved c =
-    let Row : ℕ → ℕ =
-    let a = c.args in kernel_row a.lambda.now a.delta.now a.kernel.level.0 in
-    let led : let a = c.args in LedTo a.kernel.n.0 a.kernel.darts (Row) a.block.now (λ _ _. suc a.kernel.level.0) a.since.now c.loop-d.since c.loop-d.d =
-    c.loop-d.invariant in
-    let mark : c.delta_at.result.0 ≡ Row c.loop-d.d =
-    let h = c in
     let p = c.requires.can_take in
+    let v = c.loop-d.invariant in
     let ld = c.loop-d-test.true in
-    c.delta_at.ensures ∙ mark_is p.1.marks p.0.tested.shape.dimension h.loop-d.d ld ((led).here ld) in
-    let first-row : c.between-rows.result.0.0 ≡ (between (Row c.loop-d.d)).0 =
-    c.between-rows.ensures.0 ∙ ap (λ (m : ℕ). (between m).0) (mark) in
-    let leads-to : let h = c in let a = c.args in c.at-b.result ≡ entry a.kernel.darts a.block.now (between (Row h.loop-d.d)).0 h.loop-d.d =
-    let h = c in let a = c.args in c.at-b.ensures.0 ∙ ap (λ (x : ℕ). entry a.kernel.darts a.block.now x h.loop-d.d) (first-row) in
-    let low : c.between-rows.result.0.0 ≤ c.args.kernel.n.0 =
-    let h = c in let p = c.requires.can_take in omega (arith, first-row, led_row p.0 p.1.string (led) c.loop-d-test.true) in
-    let dart : c.at-b.result < c.args.kernel.darts =
-    let h = c in let p = c.requires.can_take in omega (arith, leads-to, led_dart p.0 p.1.string (led) c.loop-d-test.true) in
-    let place_of : let h = c in Place c.args.kernel.darts c.args.block.now c.between-rows.result.0.0 c.at-b.result =
-    let h = c in place c.requires.can_take.0.tested.shape _ _ (low) (dart) in
-    let gone : let h = c in c.removed.result ≡ is_mark c.args.kernel.n.0 (Row c.at-b.result) =
-    let p = c.requires.can_take in c.removed.ensures ∙ in_kernel_lem p.1.marks p.0.tested.shape.dimension c.at-b.result (dart) in
-    let t = c in
-    let a = t in
-    let h = c in
-    let s = c in
-    let p = s.requires.can_take in
-    let ld = a.loop-d-test.true in
-    let row = first-row in
-    (elim c.if-not-removed.branch [ then-not-removed x ↦ rw (x.since-is, x.put.ensures) (put_as p.0 p.1.string (led) ld c.next_of-d.ensures row (leads-to) (sym (gone) ∙ x.if-not-removed.true) (place_still s.requires.since_len (place_of)) _ (add-one _)) | else-not-removed x ↦ rw x.since-is (kept_as p.0 p.1.string (led) ld c.next_of-d.ensures row (leads-to) (sym (gone) ∙ x.if-not-removed.false)) ])
+    elim c.match-entering.branch [
+      | in-Some w ↦
+          let e = w.in-Some.ensures in
+          rw (w.since-is, w.put.ensures) (put_as p.0 p.1.string v ld c.next_of-d.ensures e.row e.dart e.stays (place_still c.requires.since_len (place p.0.tested.shape _ _ e.low e.inside)) _ (rw w.from.ensures (add-one _)))
+      | in_default w ↦ rw w.since-is (kept_as p.0 p.1.string v ld c.next_of-d.ensures refl refl w.in_default.ensures)
+    ]
 
 pub returns : goal.returns
-returns c =
-    let Row : ℕ → ℕ =
-    let a = c.args in kernel_row a.lambda.now a.delta.now a.kernel.level.0 in
-    let led : let a = c.args in LedTo a.kernel.n.0 a.kernel.darts (Row) a.block.now (λ _ _. suc a.kernel.level.0) a.since.now c.loop-d.since c.loop-d.d =
-    c.loop-d.invariant in
-    let p = c.requires.can_take in led_all p.0 p.1.string (led) c.loop-d-test.false
+returns c = let p = c.requires.can_take in led_all p.0 p.1.string c.loop-d.invariant c.loop-d-test.false

@@ -7,5 +7,5 @@ use Rattle.convert.proofs.main.Goals as goal
 
 pub hand_out-requires : goal.hand_out-requires
 hand_out-requires c =
-    let fits = converted_fits _ _ _ _ _ _ (sym (ap written_of c.in-Bytes.is) ∙ c.convert.ensures.answer) in
+    let fits = converted_fits _ _ _ _ _ _ (sym (ap written_of c.in-Ok.is) ∙ c.convert.ensures.answer) in
     omega (arith, fits)

@@ -1,27 +1,32 @@
 -- `converting::convert` meets its contract: what is taken is handed on to writing. Assumes nothing.
-use mathlib.Core.Path.{sym, ap, ◌∙◌}
+use mathlib.Core.Path.{ap, ◌∙◌}
 use mathlib.Core.List.{[]}
-use Rattle.taking.specs.Answers.{taken_of}
-use Rattle.converting.proofs.Joined.{refused, checked, all_written}
+use Rattle.maps.specs.Folded.{Folded}
+use Rattle.writing.specs.Answers.{putting, put_leaves}
+use Rattle.answers.proofs.Refusals.{passed_on}
+use Rattle.converting.proofs.Joined.{refused, fits, checked, all_written}
 use Rattle.converting.proofs.convert.Goals as goal
 
+pub returns-in_err-sizes : goal.returns-in_err-sizes
+returns-in_err-sizes c =
+    let f = c.in_err-sizes.ensures in
+    let x = refused _ _ _ _ _ _ c.in_err-sizes.field-0.0 f.answer in
+    rw (passed_on c.from_residual.result c.from_residual.ensures.1) (record { answer = x.0; rows_left = f.rows_left; lambda_left = f.lambda_left; delta_left = f.delta_left; table_left = f.table_left; new_left = x.1 })
+
 -- whatever the buffer holds
-pub write_front-requires : goal.write_front-requires
-write_front-requires c =
-    let t = c in
-    let f = c.take_old.ensures in
-    checked _ _ _ _ _ [] (sym (ap taken_of t.in-Record.is) ∙ f.answer) f.rows_left f.lambda_left f.delta_left
+pub at_front-requires : goal.at_front-requires
+at_front-requires c = let f = c.in_ok-sizes.ensures in fits _ _ _ _ _ [] f.answer f.rows_left f.lambda_left f.delta_left
 
-pub returns-in-Refused : goal.returns-in-Refused
-returns-in-Refused c =
-    let u = c in
-    let f = u.take_old.ensures in
-    let x = refused _ _ _ _ _ _ c.in-Refused.r (sym (ap taken_of c.in-Refused.is) ∙ f.answer) in record { answer = x.0; rows_left = f.rows_left; lambda_left = f.lambda_left; delta_left = f.delta_left; table_left = f.table_left; new_left = x.1 }
+pub write_accepted-requires : goal.write_accepted-requires
+write_accepted-requires c = let f = c.in_ok-sizes.ensures in rw c.at_front.ensures.parts (checked _ _ _ _ _ [] f.answer f.rows_left f.lambda_left f.delta_left)
 
-pub returns-in-Record : goal.returns-in-Record
-returns-in-Record c =
-    let k = c in
-    let t = k in
-    let f = c.take_old.ensures in
-    let g = k.write_front.ensures in
-    let x = all_written _ _ _ _ _ _ (sym (ap taken_of t.in-Record.is) ∙ f.answer) f.rows_left f.lambda_left f.delta_left g.answer g.new_left in record { answer = x.0; rows_left = f.rows_left; lambda_left = f.lambda_left; delta_left = f.delta_left; table_left = f.table_left; new_left = x.1 }
+pub returns : goal.returns
+returns c =
+    let f = c.in_ok-sizes.ensures in
+    let g = c.write_accepted.ensures in
+    let new = c.args.new.now in
+    let parts = c.at_front.ensures.parts in
+    let answered = g.answer ∙ ap (λ (f : Folded). putting f new) parts in
+    let left = g.bytes_left ∙ ap (λ (f : Folded). put_leaves f new) parts in
+    let x = all_written _ _ _ _ _ _ f.answer f.rows_left f.lambda_left f.delta_left answered left in
+    record { answer = x.0; rows_left = f.rows_left; lambda_left = f.lambda_left; delta_left = f.delta_left; table_left = f.table_left; new_left = x.1 }

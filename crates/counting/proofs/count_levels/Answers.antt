@@ -1,11 +1,10 @@
--- `counting::count_levels` meets its contract. The invariant: the climb has come to a level, which the table holds, and the levels up to it are counted; the measure is the kernels that are left. Assumes nothing.
-use mathlib.Core.Path.{◌≡◌, refl, sym, subst, ◌∙◌}
+-- `counting::count_levels` meets its contract. The invariant: the climb has come to a level, which the table holds, and the levels up to it are counted. Assumes nothing.
+use mathlib.Core.Path.{refl, sym, subst, ◌∙◌}
 use mathlib.Core.List.{List}
 use Prim.Native.Nat.{ℕ, ◌+◌, ◌≤◌, zero-le}
 use native.Mathlib.Omega.{arith}
 use lib.ListN.{get_or-replicate}
-use Rattle.answers.specs.Pyramid.{lent}
-use Rattle.climbing.specs.Climb.{climb_to_leaves}
+use Rattle.answers.specs.Pyramid.{folded}
 use Rattle.climbing.proofs.Steps.{climb_none, climb_reached}
 use Rattle.counting.specs.Counts.{LevelCounted, Counted}
 use Rattle.counting.proofs.Levels.{climb_base, climb_passes, table_climbed}
@@ -17,64 +16,42 @@ begin-requires c =
     let p = c.requires in
     (omega (arith, p.darts.1, p.lambda_length), record { none = λ k lk. get_or-replicate 256 k 65535 0 lk; heads = refl; room = refl }, p.table_length ∙ sym p.rows_length)
 
-pub count_level-first-requires : goal.count_level-first-requires
-count_level-first-requires c =
-    let b = c in
-    let s = c in
-    let a = s.args in
-    let z = a.sizes in
-    let P = lent z a.rows.now a.lambda.now a.delta.now in
-    let low = climb_base P a.table.now s.requires 0 zero-le in
-    let climbed = climb_none low b.begin.ensures.strung b.begin.ensures.table_left in
-    let is = climbed.holds ∙ sym (table_climbed P a.table.now s.requires 0 zero-le) in
-    (climbed_explicit P a.table.now s.requires 0 zero-le _ is, s.requires.dimension.0)
+pub count_level-requires : goal.count_level-requires
+count_level-requires c =
+    let P = folded c.args.pyramid.now in
+    let T = c.args.table.now in
+    let climbed = climb_none (climb_base P T c.requires 0 zero-le) c.begin.ensures.strung c.begin.ensures.table_left in
+    (climbed_explicit P T c.requires 0 zero-le _ (climbed.holds ∙ sym (table_climbed P T c.requires 0 zero-le)), c.requires.dimension.0)
 
 pub loop-l-init : goal.loop-l-init
 loop-l-init c =
-    let b = c in
-    let s = c in
-    let a = s.args in
-    let z = a.sizes in
-    let P = lent z a.rows.now a.lambda.now a.delta.now in
-    let low = climb_base P a.table.now s.requires 0 zero-le in
-    let climbed = climb_none low b.begin.ensures.strung b.begin.ensures.table_left in
-    let first = c.count_level-first in
-    let none = subst (λ (t : List (List ℕ)). Counted P t 0) (sym c.zeros.ensures) (counted_none P) in
+    let P = folded c.args.pyramid.now in
+    let T = c.args.table.now in
+    let z = c.args.pyramid.now.sizes in
+    let first = c.count_level in
+    let climbed = climb_none (climb_base P T c.requires 0 zero-le) c.begin.ensures.strung c.begin.ensures.table_left in
+    let none = subst (λ (t : List (List ℕ)). Counted P t 0) (sym c.zeros-counts.ensures) (counted_none P) in
     let row = subst (λ (t : List ℕ). LevelCounted z.n.0 z.darts t first.result) climbed.holds first.ensures in
-    let one = counted_row P a.table.now s.requires c.zeros.result 0 zero-le none first.result row in
-    (zero-le, climbed, subst (λ (t : List (List ℕ)). Counted P t (0 + 1)) (sym c.with_row-counts.ensures) one)
+    (zero-le, climbed, counted_row P T c.requires c.zeros-counts.result 0 zero-le none first.result row)
 
-pub count_level-row-requires : goal.count_level-row-requires
-count_level-row-requires c =
-    let reached : let o = c in let z = c.args.sizes in (o.loop-l.l + 1 ≤ z.h.0) × (c.go_on.new.table ≡ climb_to_leaves (lent z c.args.rows.now c.args.lambda.now c.args.delta.now) (o.loop-l.l + 1)) =
-    let i = c in
-    (omega (arith, i.loop-l-test.true), c.go_on.ensures.table_left c.args.rows.now i.loop-l.invariant.1) in
-    let g = c in
-    let o = c in
-    let s = c in
-    let a = s.args in
-    let z = a.sizes in
-    (climbed_explicit (lent z a.rows.now a.lambda.now a.delta.now) a.table.now s.requires (o.loop-l.l + 1) (reached).0 _ (reached).1, s.requires.dimension.0)
+pub count_level-requires-in-loop-l : goal.count_level-requires-in-loop-l
+count_level-requires-in-loop-l c =
+    let P = folded c.args.pyramid.now in
+    let T = c.args.table.now in
+    let l = c.loop-l in
+    (climbed_explicit P T c.requires (l.l + 1) (omega (arith, c.loop-l-test.true)) _ (c.go_on.ensures.table_left c.args.pyramid.now.rows.now l.invariant.1), c.requires.dimension.0)
 
 pub loop-l-preserved : goal.loop-l-preserved
 loop-l-preserved c =
-    let reached : let o = c in let z = c.args.sizes in (o.loop-l.l + 1 ≤ z.h.0) × (c.go_on.new.table ≡ climb_to_leaves (lent z c.args.rows.now c.args.lambda.now c.args.delta.now) (o.loop-l.l + 1)) =
-    let i = c in
-    (omega (arith, i.loop-l-test.true), c.go_on.ensures.table_left c.args.rows.now i.loop-l.invariant.1) in
-    let g = c in
-    let o = c in
-    let s = c in
-    let a = s.args in
-    let z = a.sizes in
-    let l = o.loop-l in
-    let P = lent z a.rows.now a.lambda.now a.delta.now in
-    let is = reached in
-    let counted = c.count_level-row in
-    let e = climbed_table P a.table.now s.requires (l.l + 1) is.0 _ is.1 in
-    let row = subst (λ (t : List ℕ). LevelCounted z.n.0 z.darts t counted.result) e counted.ensures in
-    let more = counted_row P a.table.now s.requires l.counts (l.l + 1) is.0 l.invariant.2 counted.result row in
-    let passes = climb_passes P a.table.now s.requires (l.l + 1) is.0 in (
-      omega (arith, c.loop-l-test.true),
-      climb_reached l.invariant.1 is.0 (sym passes) is.1,
-      subst (λ (t : List (List ℕ)). Counted P t (l.l + 1 + 1)) (sym c.with_row-grown.ensures) more,
-    )
+    let P = folded c.args.pyramid.now in
+    let T = c.args.table.now in
+    let z = c.args.pyramid.now.sizes in
+    let l = c.loop-l in
+    let up : l.l + 1 ≤ z.h.0 = omega (arith, c.loop-l-test.true) in
+    let climbed = c.go_on.ensures.table_left c.args.pyramid.now.rows.now l.invariant.1 in
+    let counted = c.count_level-in-loop-l in
+    let row = subst (λ (t : List ℕ). LevelCounted z.n.0 z.darts t counted.result) (climbed_table P T c.requires (l.l + 1) up _ climbed) counted.ensures in
+    (up, climb_reached l.invariant.1 up (sym (climb_passes P T c.requires (l.l + 1) up)) climbed, counted_row P T c.requires l.counts (l.l + 1) up l.invariant.2 counted.result row)
+
+pub go_on-requires : goal.go_on-requires
+go_on-requires c = (omega arith, omega (arith, c.loop-l-test.true), (c.args.pyramid.now.rows.now, c.loop-l.invariant.1))

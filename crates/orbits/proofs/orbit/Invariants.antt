@@ -7,7 +7,7 @@ use Rattle.orbits.specs.Search.{state, turns}
 use Rattle.orbits.proofs.orbit.Given as goal
 
 abbrev pub invariant-loop-head : goal.invariant-loop-head
-invariant-loop-head l = (l.initial.head ≤ l.head) × (l.head ≤ l.tail) × (state l.reached l.queue l.tail ≡ turns (entry l.darts l.table) l.n.0 (chosen l.choices) l.initial.head (state l.initial.reached l.initial.queue l.initial.tail) (l.head - l.initial.head))
+invariant-loop-head l = (l.initial.head ≤ l.head) × (l.head ≤ l.tail) × (state l.reached l.queue l.tail ≡ turns (entry l.search.darts l.table) l.search.n.0 (chosen l.choices) l.initial.head (state l.initial.reached l.initial.queue l.initial.tail) (l.head - l.initial.head))
 
 abbrev pub decreases-loop-head : goal.decreases-loop-head
-decreases-loop-head l = l.darts - l.head
+decreases-loop-head l = l.search.darts - l.head

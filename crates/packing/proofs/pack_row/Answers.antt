@@ -18,7 +18,7 @@ loop-d-init c = (zero-le, omega arith, packs_none _ _ _ _)
 pub bounds-ranks-neighbour : goal.bounds-ranks-neighbour
 bounds-ranks-neighbour c =
     let l = c.loop-d in
-    let e : c.wide-neighbour.result ≡ get_or c.args.rows.now (c.args.from + l.d) 0 = c.wide-neighbour.ensures ∙ packs_ahead l.invariant.2 c.args.from c.requires.0 in
+    let e : get_or l.rows (c.args.from + l.d) 0 ≡ get_or c.args.rows.now (c.args.from + l.d) 0 = packs_ahead l.invariant.2 c.args.from c.requires.0 in
     omega (arith, e, c.requires.2 l.d (omega arith) (sym c.stands.ensures ∙ c.if-stands.true))
 
 pub offset_bounds-rows-next : goal.offset_bounds-rows-next
@@ -53,7 +53,7 @@ loop-d-preserved c =
         | else-stands w ↦ omega (arith, w.next-is, l.invariant.1, count_over p l.d (sym is ∙ w.if-stands.false))
       ]),
       (elim c.if-stands.branch [
-        | then-stands w ↦ rw w.rows-is (packs_on l.invariant.2 (sym is ∙ w.if-stands.true) l.next _ l.invariant.1 behind (ap (each a.ranks.now) (w.wide-neighbour.ensures ∙ packs_ahead l.invariant.2 a.from c.requires.0)))
+        | then-stands w ↦ rw w.rows-is (packs_on l.invariant.2 (sym is ∙ w.if-stands.true) l.next _ l.invariant.1 behind (ap (each a.ranks.now) (packs_ahead l.invariant.2 a.from c.requires.0)))
         | else-stands w ↦ rw w.rows-is (packs_over l.invariant.2 (sym is ∙ w.if-stands.false))
       ]),
     )

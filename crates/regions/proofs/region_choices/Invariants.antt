@@ -1,6 +1,6 @@
--- `regions::region_choices` meets its contract. The invariant: the darts passed have their choices; the measure is the darts that are left. Assumes nothing.
+-- `regions::region_choices` meets its contract. The invariant: the darts passed have their choices. Assumes nothing.
 use mathlib.Core.Path.{◌≡◌}
-use Prim.Native.Nat.{ℕ, ◌-◌, ◌≤◌, ◌<◌}
+use Prim.Native.Nat.{ℕ, ◌≤◌, ◌<◌}
 use lib.ListN.{length}
 use Rattle.maps.specs.Table.{each}
 use Rattle.orbits.specs.Choices.{chosen}
@@ -8,7 +8,4 @@ use Rattle.regions.specs.Searches.{region_rows}
 use Rattle.regions.proofs.region_choices.Given as goal
 
 abbrev pub invariant-loop-d : goal.invariant-loop-d
-invariant-loop-d l = (l.d ≤ l.d-end) × (length l.choices ≡ 4096) × ((k : ℕ) → k < l.d → (j : ℕ) → j ≤ l.n.0 → chosen l.choices j k ≡ region_rows l.n.0 (each l.lambda) (each l.delta) l.level.0 j k)
-
-abbrev pub decreases-loop-d : goal.decreases-loop-d
-decreases-loop-d l = l.d-end - l.d
+invariant-loop-d l = (l.d ≤ l.d-end) × (length l.choices ≡ 4096) × ((k : ℕ) → k < l.d → (j : ℕ) → j ≤ l.pyramid.sizes.n.0 → chosen l.choices j k ≡ region_rows l.pyramid.sizes.n.0 (each l.pyramid.lambda.now) (each l.pyramid.delta.now) l.level.0 j k)

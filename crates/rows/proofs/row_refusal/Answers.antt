@@ -1,53 +1,31 @@
 -- `rows::row_refusal` meets its contract: 13 comes after what is asked of every job. Assumes nothing.
-use mathlib.Core.Path.{◌≡◌, refl, sym, ◌∙◌}
-use native.Mathlib.Omega.{arith}
-use borrow.Author.Tests.{lt-ltb, le-ltb}
-use Rattle.maps.specs.Verdict.{◌then◌}
+use mathlib.Core.Path.{◌≡◌, sym, ◌∙◌}
+use Prim.Native.Nat.{ℕ}
+use lib.Dec.{ltb}
+use borrow.Author.Rules.{rules}
+use Rattle.std.specs.Ordering.{is_lt, nat_cmp}
+use Rattle.answers.proofs.Refusals.{passed_on}
 use Rattle.maps.specs.Sizes.{number13}
-use Rattle.maps.specs.Row.{row_lent}
-use Rattle.answers.specs.Numbers.{refusal_of, verdict_of}
-use Rattle.answers.specs.declared.Check.{Check}
-use Rattle.answers.proofs.Refusals.{told, refused_then}
-use Rattle.rows.proofs.Accepted.{row_lent_lem}
+use Rattle.rows.proofs.Accepted.{row_refused, row_allowed}
 use Rattle.rows.proofs.row_refusal.Goals as goal
 
-pub returns-in-Refused : goal.returns-in-Refused
-returns-in-Refused c =
-    let by-asked : (is : Check) → c.asked.result ≡ is → let a = c.args in row_lent a.sizes.n.0 a.sizes.darts a.sizes.h.0 a.base.now a.unfolded.now a.level.0 a.involution.0 ≡ verdict_of is then number13 a.sizes.n.0 a.level.0 a.involution.0 0 =
-    λ is e. let a = c.args in
-    let b = c.both-fit.ensures in
-    let f = c.rows_fit.ensures in
-    let g = c.rows_fit-2.ensures in
-    let t = told c.asked.ensures e in
-    row_lent_lem a.sizes.n.0 a.sizes.darts a.sizes.h.0 a.base.now a.unfolded.now a.level.0 a.involution.0 ∙ rw (← f, ← g, ← b, ← t) in
-    let s = c in
-    let r = c.in-Refused.r in
-    refused_then r (refusal_of r) _ refl ∙ sym (by-asked _ c.in-Refused.is)
+-- what a derived comparison says
+less : (a b : ℕ) → ltb a b ≡ is_lt (nat_cmp a b)
+less a b = search rules
 
-pub returns-then-sizes-involution : goal.returns-then-sizes-involution
+pub returns-in_err-asked : goal.returns-in_err-asked
+returns-in_err-asked c =
+    rw (passed_on c.from_residual.result c.from_residual.ensures.1) (
+    let a = c.args in row_refused a.sizes.n.0 a.sizes.darts a.sizes.h.0 a.base.now a.unfolded.now a.level.0 a.involution.0 c.in_err-asked.field-0.0 (rw c.both_fit-fit.ensures at c.in_err-asked.ensures))
+
+pub returns-then-lt : goal.returns-then-lt
 unfolding number13
-returns-then-sizes-involution c =
-    let by-asked : (is : Check) → c.asked.result ≡ is → let a = c.args in row_lent a.sizes.n.0 a.sizes.darts a.sizes.h.0 a.base.now a.unfolded.now a.level.0 a.involution.0 ≡ verdict_of is then number13 a.sizes.n.0 a.level.0 a.involution.0 0 =
-    λ is e. let a = c.args in
-    let b = c.both-fit.ensures in
-    let f = c.rows_fit.ensures in
-    let g = c.rows_fit-2.ensures in
-    let t = told c.asked.ensures e in
-    row_lent_lem a.sizes.n.0 a.sizes.darts a.sizes.h.0 a.base.now a.unfolded.now a.level.0 a.involution.0 ∙ rw (← f, ← g, ← b, ← t) in
-    let m = c in
-    let t = lt-ltb c.args.sizes.n.0 c.args.involution.0 (omega arith) in
-    sym (by-asked _ m.in_default.is ∙ rw t)
+returns-then-lt c =
+    let a = c.args in
+    rw (less a.sizes.n.0 a.involution.0 ∙ sym c.lt.ensures ∙ c.if-lt.true) at (row_allowed a.sizes.n.0 a.sizes.darts a.sizes.h.0 a.base.now a.unfolded.now a.level.0 a.involution.0 (rw c.both_fit-fit.ensures at c.in_ok-asked.ensures))
 
 pub returns : goal.returns
 unfolding number13
 returns c =
-    let by-asked : (is : Check) → c.asked.result ≡ is → let a = c.args in row_lent a.sizes.n.0 a.sizes.darts a.sizes.h.0 a.base.now a.unfolded.now a.level.0 a.involution.0 ≡ verdict_of is then number13 a.sizes.n.0 a.level.0 a.involution.0 0 =
-    λ is e. let a = c.args in
-    let b = c.both-fit.ensures in
-    let f = c.rows_fit.ensures in
-    let g = c.rows_fit-2.ensures in
-    let t = told c.asked.ensures e in
-    row_lent_lem a.sizes.n.0 a.sizes.darts a.sizes.h.0 a.base.now a.unfolded.now a.level.0 a.involution.0 ∙ rw (← f, ← g, ← b, ← t) in
-    let m = c in
-    let t = le-ltb c.args.sizes.n.0 c.args.involution.0 (omega arith) in
-    sym (by-asked _ m.in_default.is ∙ rw t)
+    let a = c.args in
+    rw (less a.sizes.n.0 a.involution.0 ∙ sym c.lt.ensures ∙ c.if-lt.false) at (row_allowed a.sizes.n.0 a.sizes.darts a.sizes.h.0 a.base.now a.unfolded.now a.level.0 a.involution.0 (rw c.both_fit-fit.ensures at c.in_ok-asked.ensures))

@@ -3,22 +3,24 @@ use mathlib.Core.Path.{◌≡◌, sym}
 use Rattle.maps.specs.Verdict.{accepted}
 use Rattle.maps.specs.CheckPyramid.{check_lent}
 use Rattle.maps.specs.Write.{write_table}
-use Rattle.answers.specs.Pyramid.{lent}
-use Rattle.answers.proofs.Refusals.{told}
+use Rattle.answers.specs.Pyramid.{folded}
+use Rattle.answers.proofs.Refusals.{passed_on, told}
 use Rattle.writing.proofs.Whole.{check_refused, check_accepted}
 use Rattle.writing.proofs.write.Goals as goal
 
-pub returns-in-Refused : goal.returns-in-Refused
+pub returns-in_err-check : goal.returns-in_err-check
 unfolding write_table
-returns-in-Refused c =
+returns-in_err-check c =
+    rw (passed_on c.from_residual.result c.from_residual.ensures.1) (
     let k = c in
-    let x = check_refused _ _ _ c.in-Refused.r (told k.check.ensures.verdict c.in-Refused.is) in record { answer = x.0; table_left = k.check.ensures.table_left; bytes_left = x.1 }
+    let x = check_refused _ _ _ c.in_err-check.field-0.0 (told k.check.ensures.verdict c.in_err-check.was) in record { answer = x.0; table_left = k.check.ensures.table_left; bytes_left = x.1 }
+    )
 
 pub returns : goal.returns
 unfolding write_table
 returns c =
-    let fine : let a = c.args in check_lent (lent a.sizes a.rows.now a.lambda.now a.delta.now) a.table.now ≡ accepted =
-    sym (told c.check.ensures.verdict c.in_default.is) in
+    let fine : let a = c.args in check_lent (folded a.pyramid.now) a.table.now ≡ accepted =
+    sym (told c.check.ensures.verdict c.in_ok-check.was) in
     let w = c in
     let e = w in
     let k = e in

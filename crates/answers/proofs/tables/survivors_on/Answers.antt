@@ -12,7 +12,7 @@ use Rattle.answers.proofs.Counted.{part_more}
 use Rattle.answers.proofs.tables.survivors_on.Goals as goal
 
 -- a block's survivors are no more than its darts
-few : (c : goal.After-block_on) → c.block_on.result ≤ 128
+few : (c : goal.After-from-count) → c.block_on.result ≤ 128
 few c = rw c.block_on.ensures (count_le _ 128)
 
 -- what a part from place s on has
@@ -30,8 +30,8 @@ loop-b-preserved c =
     let e : 128 * l.b + 128 ≡ 128 * (l.b + 1) = omega arith in (
       omega arith,
       l.invariant.1,
-      part_more a.lambda.now (128 * l.b) 128 a.level.0 l.count c.block_on.result (omega arith) l.invariant.2 c.block_on.ensures ∙ ap (λ (m : ℕ). survivors m (each a.lambda.now) a.level.0) e,
-      omega (arith, few c),
+      ap (λ (m : ℕ). l.count + m) c.from-count.ensures ∙ part_more a.lambda.now (128 * l.b) 128 (128 * l.b + 128 - 128 * l.b) a.level.0 l.count c.block_on.result (omega arith) l.invariant.2 c.block_on.ensures ∙ ap (λ (m : ℕ). survivors m (each a.lambda.now) a.level.0) e,
+      omega (arith, few c, c.from-count.ensures),
     )
 
 pub returns : goal.returns
@@ -42,7 +42,7 @@ returns c =
     let s = 128 * (length xs / 128) in
     let e : 128 * l.b ≡ s = omega arith in
     let f : s + (length xs - s) ≡ length xs = omega arith in
-    part_more xs s (length xs - s) a.level.0 l.count c.rest_on.result (omega arith) (l.invariant.2 ∙ ap (λ (m : ℕ). survivors m (each xs) a.level.0) e)
+    part_more xs s (length xs - s) (length xs - s) a.level.0 l.count c.rest_on.result (omega arith) (l.invariant.2 ∙ ap (λ (m : ℕ). survivors m (each xs) a.level.0) e)
     (c.rest_on.ensures ∙ ap (λ (m : ℕ). survivors m (each (take (length xs - s) (drop s xs))) a.level.0) (left xs s))
     ∙ ap (λ (m : ℕ). survivors m (each xs) a.level.0) f
 

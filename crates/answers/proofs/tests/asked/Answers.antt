@@ -8,10 +8,10 @@ pub returns-then-sizes-level : goal.returns-then-sizes-level
 unfolding number11
 returns-then-sizes-level c =
     let a = c.args in
-    rw (← c.lent.ensures, c.in_default.is, lt-ltb a.sizes.h.0 a.question.level.0 (omega arith))
+    rw (← c.lent.ensures, c.in_ok-lent.was, lt-ltb a.sizes.h.0 a.question.level.0 (omega arith))
 
 pub returns : goal.returns
 unfolding number11
 returns c =
     let a = c.args in
-    rw (← c.lent.ensures, c.in_default.is, le-ltb a.sizes.h.0 a.question.level.0 (omega arith))
+    rw (← c.lent.ensures, c.in_ok-lent.was, le-ltb a.sizes.h.0 a.question.level.0 (omega arith))

@@ -7,11 +7,8 @@ use Rattle.combinatorial.proofs.exporting.export.Goals as goal
 
 pub returns : goal.returns
 returns c =
-    let pattern : let a = c.args in Pattern a.n.0 a.darts a.rows.now (length a.edges.now) (length a.vertices.now) =
-    c.yielded.ensures c.if-not-yielded.false in
-    let k = c in
-    let t = k in
     let a = c.args in
-    let p = pattern in
-    rw (pattern_passes a.n.0 a.darts a.rows.now a.edges.now a.vertices.now p, k.take_rows.ensures.edges_left, k.take_rows.ensures.vertices_left)
-    (a.darts / 2, pattern_yields a.n.0 a.darts a.rows.now (length a.edges.now) (length a.vertices.now) p)
+    let pattern : Pattern a.n.0 a.darts a.rows.now (length a.edges.now) (length a.vertices.now) =
+    c.yielded.ensures c.if-not-yielded.false in
+    rw (pattern_passes a.n.0 a.darts a.rows.now a.edges.now a.vertices.now pattern, c.take_rows.ensures.edges_left, c.take_rows.ensures.vertices_left)
+    (a.darts / 2, pattern_yields a.n.0 a.darts a.rows.now (length a.edges.now) (length a.vertices.now) pattern)

@@ -1,11 +1,8 @@
--- `combinatorial::exporting::lead_back` meets its contract. The invariant: the pairs before lead back; the measure is the pairs that are left. Assumes nothing.
-use Prim.Native.Nat.{ℕ, ◌-◌, ◌≤◌, ◌<◌}
+-- `combinatorial::exporting::lead_back` meets its contract. The invariant: the pairs before lead back. Assumes nothing.
+use Prim.Native.Nat.{ℕ, ◌≤◌, ◌<◌}
 use Rattle.maps.specs.Table.{each}
 use Rattle.combinatorial.specs.Back.{Backward}
 use Rattle.combinatorial.proofs.exporting.lead_back.Given as goal
 
 abbrev pub invariant-loop-d : goal.invariant-loop-d
 invariant-loop-d l = (l.d ≤ l.half) × ((x : ℕ) → x < l.d → Backward (each l.edge) (each l.turn) x)
-
-abbrev pub decreases-loop-d : goal.decreases-loop-d
-decreases-loop-d l = l.half - l.d

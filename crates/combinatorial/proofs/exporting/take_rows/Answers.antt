@@ -1,4 +1,4 @@
--- `combinatorial::exporting::take_rows` meets its contract. The invariant: the entries of the darts passed are written; the measure is the darts that are left. Assumes nothing.
+-- `combinatorial::exporting::take_rows` meets its contract. The invariant: the entries of the darts passed are written. Assumes nothing.
 use mathlib.Core.Path.{◌∙◌}
 use native.Mathlib.Omega.{arith}
 use Rattle.maps.specs.Table.{entry}
@@ -9,5 +9,4 @@ use Rattle.combinatorial.proofs.exporting.take_rows.Goals as goal
 pub returns : goal.returns
 returns c =
     let l = c.loop-d in
-    let s = c in
-    let rows = entry s.args.darts s.args.rows.now in record { edges_left = listed_of (edge_of rows) _ l.edges (l.invariant.1 ∙ s.requires.1) (λ k f. l.invariant.3 k (omega arith)); vertices_left = listed_of (vertex_of rows) _ l.vertices (l.invariant.2 ∙ s.requires.2) (λ k f. l.invariant.4 k (omega arith)) }
+    let rows = entry c.args.table.now.darts c.args.table.now.entries.now in record { edges_left = listed_of (edge_of rows) _ l.edges (l.invariant.1 ∙ c.requires.1) (λ k f. l.invariant.3 k (omega arith)); vertices_left = listed_of (vertex_of rows) _ l.vertices (l.invariant.2 ∙ c.requires.2) (λ k f. l.invariant.4 k (omega arith)) }

@@ -1,4 +1,4 @@
--- `combinatorial::importing::two_to_one` meets its contract. The invariant: a flag is set where a dart passed had the image, and no dart passed has the image of one before; the measure is the darts that are left. Assumes nothing.
+-- `combinatorial::importing::two_to_one` meets its contract. The invariant: a flag is set where a dart passed had the image, and no dart passed has the image of one before. Assumes nothing.
 use mathlib.Core.Path.{sym, ◌∙◌}
 use mathlib.Core.Bool.{false}
 use Prim.Native.Nat.{zero-le}
@@ -15,18 +15,18 @@ loop-d-init c = (zero-le, length-replicate 2048 false, λ x l. get_or-replicate 
 
 pub returns-then-had-image : goal.returns-then-had-image
 returns-then-had-image c =
+    let a = c.args in
     let l = c.loop-d in
-    let s = c in
-    let a = s.args in
     let low = c.loop-d-test.true in
-    sym (first_21 a.darts a.vertices.now l.d low l.invariant.3 (sym (l.invariant.2 _ (s.requires.0.inside l.d low)) ∙ c.if-had-image.true))
+    sym (first_21 a.darts a.vertices.now l.d low l.invariant.3 (sym (l.invariant.2 _ (c.requires.0.inside l.d low)) ∙ c.if-had-image.true))
 
 pub loop-d-preserved : goal.loop-d-preserved
 loop-d-preserved c =
     let l = c.loop-d in
-    let s = c in
-    let low = s.requires.0.inside l.d c.loop-d-test.true in
-    (omega arith, simp length-set l.invariant.1, λ x f. flags_more s.args.vertices.now l.had l.d (omega (arith, low)) x (l.invariant.2 x f), below_more _ l.d l.invariant.3 (sym (l.invariant.2 _ low) ∙ c.if-had-image.false))
+    let low = c.requires.0.inside l.d c.loop-d-test.true in
+    (omega arith, simp length-set l.invariant.1, λ x f. flags_more c.args.vertices.now l.had l.d (omega (arith, low)) x (l.invariant.2 x f), below_more _ l.d l.invariant.3 (sym (l.invariant.2 _ low) ∙ c.if-had-image.false))
 
 pub returns : goal.returns
-returns c = let a = c.args in sym (fresh_21 a.darts a.vertices.now (λ x f. c.loop-d.invariant.3 x (omega arith)))
+returns c =
+    let a = c.args in
+    sym (fresh_21 a.darts a.vertices.now (λ x f. c.loop-d.invariant.3 x (omega arith)))

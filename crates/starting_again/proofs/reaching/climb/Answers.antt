@@ -7,11 +7,11 @@ use Rattle.climbing.proofs.Steps.{climb_none, climb_strung}
 use Rattle.starting_again.proofs.Reached.{kernel_ready, kernel_removed}
 use Rattle.starting_again.proofs.reaching.climb.Goals as goal
 
-pub link-requires : goal.link-requires
-link-requires c = let b = c.requires.1.base in (omega (arith, b.darts, b.lambda_long), record { none = λ k lk. get_or-replicate 256 k 65535 0 lk; heads = refl; room = refl })
+pub string-requires : goal.string-requires
+string-requires c = let b = c.requires.1.base in (omega (arith, b.darts, b.lambda_long), record { none = λ k lk. get_or-replicate 256 k 65535 0 lk; heads = refl; room = refl })
 
 pub loop-l-init : goal.loop-l-init
-loop-l-init c = (zero-le, λ h r. climb_none r.base c.link.ensures refl)
+loop-l-init c = (zero-le, λ h r. climb_none r.base c.string.ensures refl)
 
 pub remove-requires : goal.remove-requires
 remove-requires c =

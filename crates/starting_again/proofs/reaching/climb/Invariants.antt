@@ -6,7 +6,7 @@ use Rattle.starting_again.specs.Reaching.{Reached}
 use Rattle.starting_again.proofs.reaching.climb.Given as goal
 
 abbrev pub invariant-loop-l : goal.invariant-loop-l
-invariant-loop-l l = (l.l ≤ l.top) × ((h : ℕ) → Reached (of_parts l.n.0 l.darts h l.initial.rows l.lambda l.delta) l.top → Climbed (of_parts l.n.0 l.darts h l.initial.rows l.lambda l.delta) l.l l.head l.next l.rows)
+invariant-loop-l l = (l.l ≤ l.l-end) × ((h : ℕ) → Reached (of_parts l.n.0 l.darts h l.initial.rows l.lambda l.delta) l.l-end → Climbed (of_parts l.n.0 l.darts h l.initial.rows l.lambda l.delta) l.l l.strings.head l.strings.next l.rows)
 
 abbrev pub decreases-loop-l : goal.decreases-loop-l
-decreases-loop-l l = l.top - l.l
+decreases-loop-l l = l.l-end - l.l

@@ -6,4 +6,4 @@ use Rattle.survivor_words.proofs.words.eight_bytes.Goals as goal
 
 pub returns : goal.returns
 unfolding sum lanes
-returns c = omega arith
+returns c = omega (arith, c.from_le_bytes.ensures)

@@ -1,123 +1,49 @@
 -- `taking::unpack` meets its contract: nothing is copied before all is tested. Assumes nothing.
 use mathlib.Core.Bool.{Bool, ◌&&◌}
-use mathlib.Core.Path.{◌≡◌, refl, sym, ap₂, ◌∙◌}
-use Prim.Native.Nat.{ℕ, suc, ◌+◌, ◌*◌}
+use mathlib.Core.Path.{◌≡◌, refl, sym}
+use Prim.Native.Nat.{suc, ◌*◌}
+use native.Mathlib.Omega.{arith}
 use lib.Dec.{leb}
 use lib.ListN.{length}
-use Rattle.maps.specs.Verdict.{accepted, ◌then◌}
-use Rattle.maps.specs.Sizes.{sizes}
-use Rattle.maps.specs.Record.{one_byte_by, byte, field}
-use Rattle.answers.proofs.Refusals.{told, refused_first, refused_second}
+use Rattle.maps.specs.Record.{one_byte_by, byte}
+use Rattle.answers.proofs.Refusals.{passed_on, refused_first, refused_second}
 use Rattle.taking.specs.Answers.{allowed_of}
 use Rattle.taking.proofs.Whole.{Told, left_alone, lent_is, small, room_for, all_unpacked}
+use Rattle.taking.proofs.unpacking.unpack.Goals.{After-from_le_bytes-darts, After-long_enough-enough}
 use Rattle.taking.proofs.unpacking.unpack.Goals as goal
 
-pub returns-in-Refused : goal.returns-in-Refused
-returns-in-Refused c =
-    let n-of : ℕ =
-    c.byte_at.result in
-    let h-of : ℕ =
-    c.byte_at-2.result in
-    let N-of : ℕ =
-    c.two_bytes-darts.result in
-    let told_at : (one enough : Bool) → let a = c.args in one ≡ one_byte_by (allowed_of a.allowed) (byte a.bytes.now 7) (N-of) → enough ≡ (leb (suc (n-of) * N-of) (length a.rows.now) && (leb (N-of) (length a.lambda.now) && (leb (N-of) (length a.delta.now) && leb (suc (n-of) * N-of) (length a.table.now)))) → Told a.bytes.now (allowed_of a.allowed) a.rows.now a.lambda.now a.delta.now a.table.now (n-of) (h-of) (N-of) one enough =
-    λ one enough e f. record {
-      dimension = c.byte_at.ensures;
-      height = c.byte_at-2.ensures;
-      darts = c.two_bytes-darts.ensures ∙ ap₂ (λ (x y : ℕ). x + 256 * y) c.byte_at-3.ensures c.byte_at-4.ensures;
-      kind = e;
-      fit = f;
-    } in
-    let s = c in let both =
-    left_alone _ _ _ _ _ _ c.in-Refused.r (refused_first _ _ _ (lent_is (told_at _ _ refl refl)) c.in-Refused.r (told s.header.ensures c.in-Refused.is)) in record { answer = both.0; rows_left = both.1.0; lambda_left = both.1.1.0; delta_left = both.1.1.1 }
+-- the header was read; whatever is said of the rows' kind and of the room for them
+header_told : (c : After-from_le_bytes-darts) (one enough : Bool) → let a = c.args in let n = c.byte_at.result in let N = c.from_le_bytes-darts.result in one ≡ one_byte_by (allowed_of a.allowed) (byte a.bytes.now 7) N → enough ≡ (leb (suc n * N) (length a.rows.now) && (leb N (length a.lambda.now) && (leb N (length a.delta.now) && leb (suc n * N) (length a.table.now)))) → Told a.bytes.now (allowed_of a.allowed) a.rows.now a.lambda.now a.delta.now a.table.now n c.byte_at-2.result N one enough
+header_told c one enough e f = record { dimension = c.byte_at.ensures; height = c.byte_at-2.ensures; darts = omega (arith, c.from_le_bytes-darts.ensures, c.byte_at-3.ensures, c.byte_at-4.ensures); kind = e; fit = f }
+
+-- and what the code says of them
+all_told : (c : After-long_enough-enough) → let a = c.args in Told a.bytes.now (allowed_of a.allowed) a.rows.now a.lambda.now a.delta.now a.table.now c.byte_at.result c.byte_at-2.result c.from_le_bytes-darts.result c.one_byte-one.result c.long_enough-enough.result
+all_told c = header_told (goal.at.After-long_enough-enough c).After-from_le_bytes-darts _ _ c.one_byte-one.ensures c.long_enough-enough.ensures
+
+pub returns-in_err-header : goal.returns-in_err-header
+returns-in_err-header c =
+    let t = header_told (goal.at.returns-in_err-header c).After-from_le_bytes-darts _ _ refl refl in
+    let r = c.in_err-header.field-0.0 in
+    let both = left_alone _ _ _ _ _ _ r (refused_first _ _ _ (lent_is t) r c.in_err-header.ensures) in
+    rw (passed_on c.from_residual.result c.from_residual.ensures.1) (record { answer = both.0; rows_left = both.1.0; lambda_left = both.1.1.0; delta_left = both.1.1.1 })
 
 pub rest-requires : goal.rest-requires
-rest-requires c =
-    let n-of : ℕ =
-    c.byte_at.result in
-    let h-of : ℕ =
-    c.byte_at-2.result in
-    let N-of : ℕ =
-    c.two_bytes-darts.result in
-    let told_at : (one enough : Bool) → let a = c.args in one ≡ one_byte_by (allowed_of a.allowed) (byte a.bytes.now 7) (N-of) → enough ≡ (leb (suc (n-of) * N-of) (length a.rows.now) && (leb (N-of) (length a.lambda.now) && (leb (N-of) (length a.delta.now) && leb (suc (n-of) * N-of) (length a.table.now)))) → Told a.bytes.now (allowed_of a.allowed) a.rows.now a.lambda.now a.delta.now a.table.now (n-of) (h-of) (N-of) one enough =
-    λ one enough e f. record {
-      dimension = c.byte_at.ensures;
-      height = c.byte_at-2.ensures;
-      darts = c.two_bytes-darts.ensures ∙ ap₂ (λ (x y : ℕ). x + 256 * y) c.byte_at-3.ensures c.byte_at-4.ensures;
-      kind = e;
-      fit = f;
-    } in
-    let m = c in
-    let z = small (told_at _ _ refl refl) (sym (told m.header.ensures m.in_default.is)) in
-    (z.dimension, z.darts)
+rest-requires c = let z = small (all_told c) (sym c.in_ok-header.ensures) in (z.dimension, z.darts)
 
-pub returns-in-Refused-rest : goal.returns-in-Refused-rest
-returns-in-Refused-rest c =
-    let n-of : ℕ =
-    c.byte_at.result in
-    let h-of : ℕ =
-    c.byte_at-2.result in
-    let N-of : ℕ =
-    c.two_bytes-darts.result in
-    let told_at : (one enough : Bool) → let a = c.args in one ≡ one_byte_by (allowed_of a.allowed) (byte a.bytes.now 7) (N-of) → enough ≡ (leb (suc (n-of) * N-of) (length a.rows.now) && (leb (N-of) (length a.lambda.now) && (leb (N-of) (length a.delta.now) && leb (suc (n-of) * N-of) (length a.table.now)))) → Told a.bytes.now (allowed_of a.allowed) a.rows.now a.lambda.now a.delta.now a.table.now (n-of) (h-of) (N-of) one enough =
-    λ one enough e f. record {
-      dimension = c.byte_at.ensures;
-      height = c.byte_at-2.ensures;
-      darts = c.two_bytes-darts.ensures ∙ ap₂ (λ (x y : ℕ). x + 256 * y) c.byte_at-3.ensures c.byte_at-4.ensures;
-      kind = e;
-      fit = f;
-    } in
-    let all_told : let s = c in let a = c.args in Told a.bytes.now (allowed_of a.allowed) a.rows.now a.lambda.now a.delta.now a.table.now (n-of) (h-of) (N-of) c.one_byte-one.result c.long_enough-enough.result =
-    told_at _ _ c.one_byte-one.ensures c.long_enough-enough.ensures in
-    let header-fine : let s = c in accepted ≡ field c.args.bytes.now 0 0x01 4 then sizes (n-of) (N-of) (h-of) =
-    told c.header.ensures c.in_default.is in
-    let m = c in let both =
-    left_alone _ _ _ _ _ _ c.in-Refused-rest.r (refused_second _ _ _ (lent_is (all_told)) c.in-Refused-rest.r (header-fine) (told m.rest.ensures c.in-Refused-rest.is)) in record { answer = both.0; rows_left = both.1.0; lambda_left = both.1.1.0; delta_left = both.1.1.1 }
+pub returns-in_err-rest : goal.returns-in_err-rest
+returns-in_err-rest c =
+    let t = all_told (goal.at.returns-in_err-rest c).After-long_enough-enough in
+    let r = c.in_err-rest.field-0.0 in
+    let both = left_alone _ _ _ _ _ _ r (refused_second _ _ _ (lent_is t) r c.in_ok-header.ensures c.in_err-rest.ensures) in
+    let out = c.from_residual-in_err-rest in
+    rw (passed_on out.result out.ensures.1) (record { answer = both.0; rows_left = both.1.0; lambda_left = both.1.1.0; delta_left = both.1.1.1 })
 
 pub copy_all-requires : goal.copy_all-requires
-copy_all-requires c =
-    let n-of : ℕ =
-    c.byte_at.result in
-    let h-of : ℕ =
-    c.byte_at-2.result in
-    let N-of : ℕ =
-    c.two_bytes-darts.result in
-    let told_at : (one enough : Bool) → let a = c.args in one ≡ one_byte_by (allowed_of a.allowed) (byte a.bytes.now 7) (N-of) → enough ≡ (leb (suc (n-of) * N-of) (length a.rows.now) && (leb (N-of) (length a.lambda.now) && (leb (N-of) (length a.delta.now) && leb (suc (n-of) * N-of) (length a.table.now)))) → Told a.bytes.now (allowed_of a.allowed) a.rows.now a.lambda.now a.delta.now a.table.now (n-of) (h-of) (N-of) one enough =
-    λ one enough e f. record {
-      dimension = c.byte_at.ensures;
-      height = c.byte_at-2.ensures;
-      darts = c.two_bytes-darts.ensures ∙ ap₂ (λ (x y : ℕ). x + 256 * y) c.byte_at-3.ensures c.byte_at-4.ensures;
-      kind = e;
-      fit = f;
-    } in
-    let all_told : let s = c in let a = c.args in Told a.bytes.now (allowed_of a.allowed) a.rows.now a.lambda.now a.delta.now a.table.now (n-of) (h-of) (N-of) c.one_byte-one.result c.long_enough-enough.result =
-    told_at _ _ c.one_byte-one.ensures c.long_enough-enough.ensures in
-    let header-fine : let s = c in accepted ≡ field c.args.bytes.now 0 0x01 4 then sizes (n-of) (N-of) (h-of) =
-    told c.header.ensures c.in_default.is in
-    let m = c in
-    room_for (all_told) (sym (header-fine)) (sym (told m.rest.ensures c.in_default-rest.is))
+copy_all-requires c = room_for (all_told (goal.at.copy_all-requires c).After-long_enough-enough) (sym c.in_ok-header.ensures) (sym c.in_ok-rest.ensures)
 
 pub returns : goal.returns
 returns c =
-    let n-of : ℕ =
-    c.byte_at.result in
-    let h-of : ℕ =
-    c.byte_at-2.result in
-    let N-of : ℕ =
-    c.two_bytes-darts.result in
-    let told_at : (one enough : Bool) → let a = c.args in one ≡ one_byte_by (allowed_of a.allowed) (byte a.bytes.now 7) (N-of) → enough ≡ (leb (suc (n-of) * N-of) (length a.rows.now) && (leb (N-of) (length a.lambda.now) && (leb (N-of) (length a.delta.now) && leb (suc (n-of) * N-of) (length a.table.now)))) → Told a.bytes.now (allowed_of a.allowed) a.rows.now a.lambda.now a.delta.now a.table.now (n-of) (h-of) (N-of) one enough =
-    λ one enough e f. record {
-      dimension = c.byte_at.ensures;
-      height = c.byte_at-2.ensures;
-      darts = c.two_bytes-darts.ensures ∙ ap₂ (λ (x y : ℕ). x + 256 * y) c.byte_at-3.ensures c.byte_at-4.ensures;
-      kind = e;
-      fit = f;
-    } in
-    let all_told : let s = c in let a = c.args in Told a.bytes.now (allowed_of a.allowed) a.rows.now a.lambda.now a.delta.now a.table.now (n-of) (h-of) (N-of) c.one_byte-one.result c.long_enough-enough.result =
-    told_at _ _ c.one_byte-one.ensures c.long_enough-enough.ensures in
-    let header-fine : let s = c in accepted ≡ field c.args.bytes.now 0 0x01 4 then sizes (n-of) (N-of) (h-of) =
-    told c.header.ensures c.in_default.is in
-    let k = c in
-    let m = k in
-    let laid = k.copy_all.ensures in let both =
-    all_unpacked (all_told) (sym (header-fine)) (sym (told m.rest.ensures k.in_default-rest.is)) laid.rows_left laid.lambda_left laid.delta_left in record { answer = both.0; rows_left = both.1.0; lambda_left = both.1.1.0; delta_left = both.1.1.1 }
+    let t = all_told (goal.at.returns c).After-long_enough-enough in
+    let laid = c.copy_all.ensures in
+    let both = all_unpacked t (sym c.in_ok-header.ensures) (sym c.in_ok-rest.ensures) laid.rows_left laid.lambda_left laid.delta_left in
+    record { answer = both.0; rows_left = both.1.0; lambda_left = both.1.1.0; delta_left = both.1.1.1 }

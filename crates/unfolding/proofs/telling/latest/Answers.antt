@@ -1,17 +1,14 @@
 -- `unfolding::telling::latest` meets its contract. The invariant: the largest of the rows passed is found. The measure is the rows left. Assumes nothing.
-use mathlib.Core.Path.{◌≡◌, refl, ap, ◌∙◌}
+use mathlib.Core.Path.{◌≡◌, refl, ◌∙◌}
 use mathlib.Core.Bool.{cond}
-use mathlib.Core.List.{List}
-use Prim.Native.Nat.{ℕ, ◌+◌, ◌-◌, ◌*◌, zero-le}
+use Prim.Native.Nat.{ℕ, zero-le}
 use native.Mathlib.Omega.{arith}
-use lib.ListN.{length, take, drop}
+use lib.ListN.{length}
 use Rattle.maps.specs.Trail.{largest}
 use Rattle.maps.specs.Table.{entry, each}
 use Rattle.maps.specs.Folded.{survives}
 use Rattle.laws.proofs.Tables.{next_row}
-use Rattle.unfolding.specs.Told.{row_latest}
-use Rattle.unfolding.proofs.Totals.{largest_more, row_latest_lem}
-use Rattle.unfolding.proofs.telling.latest.Goals.{then-all-here, else-all-here}
+use Rattle.unfolding.proofs.Totals.{largest_more, cut_latest}
 use Rattle.unfolding.proofs.telling.latest.Goals as goal
 
 pub loop-i-init : goal.loop-i-init
@@ -20,16 +17,10 @@ loop-i-init c = (zero-le, omega arith, refl)
 
 pub loop-i-preserved : goal.loop-i-preserved
 loop-i-preserved c =
-    let r = c in
-    let h = r in
-    let s = c in
-    let a = s.args in
+    let a = c.args in
     let N = length a.lambda.now in
-    let v = h.loop-i.invariant in
-    let i = h.loop-i.i in
+    let l = c.loop-i in
+    let v = l.invariant in
     let f : ℕ → ℕ = λ i. largest (λ b. cond (survives (each a.lambda.now) a.level.0 b) (entry N a.table.now i b) 0) N in
-    let k : h.loop-i.from + N - h.loop-i.from ≡ N = omega arith in
-    let part : take (h.loop-i.from + N - h.loop-i.from) (drop h.loop-i.from a.table.now) ≡ take N (drop (i * N) a.table.now) = ap (λ (x : ℕ). take x (drop h.loop-i.from a.table.now)) k ∙ ap (λ (x : ℕ). take N (drop x a.table.now)) v.1 in
-    let e : r.row_latest-here.result ≡ f i = r.row_latest-here.ensures ∙ ap (λ (x : List ℕ). row_latest N a.lambda.now a.level.0 x) part ∙ row_latest_lem N a.table.now a.lambda.now a.level.0 i in
-    let lt = r.loop-i-test.true in
-    (elim c.if-all-here.branch [ then-all-here w ↦ (omega (arith, lt), omega (arith, v.1, next_row i N), largest_more f i r.row_latest-here.result c.if-all-here.all e (omega (arith, w.all-is, v.2, w.if-all-here.true))) | else-all-here w ↦ (omega (arith, lt), omega (arith, v.1, next_row i N), largest_more f i r.row_latest-here.result c.if-all-here.all e (omega (arith, w.all-is, v.2, w.if-all-here.false))) ])
+    let e : c.row_latest.result ≡ f l.i = c.row_latest.ensures ∙ cut_latest a.n.0 l.i l.from a.table.now a.lambda.now a.level.0 (omega arith) v.1 c.requires.2 in
+    (omega (arith, c.loop-i-test.true), omega (arith, v.1, next_row l.i N), largest_more f l.i c.row_latest.result c.max-all.result e (omega (arith, c.max-all.ensures, v.2)))

@@ -1,15 +1,14 @@
--- `unfolding::telling::tell` meets its contract. The invariant: the counts and levels since which of the level stand in the tables, and those of the levels below are told; it is said of each base, since no turn reads it. The measure is the levels left. Assumes nothing.
+-- `unfolding::telling::tell` meets its contract. The invariant: the counts and levels since which of the level stand in the tables, and those of the levels below are told. The measure is the levels left. Assumes nothing.
 use mathlib.Core.Path.{◌≡◌}
-use mathlib.Core.List.{List}
-use Prim.Native.Nat.{ℕ, ◌-◌, ◌*◌, ◌≤◌}
-use lib.ListN.{length, take}
-use Rattle.maps.specs.Folded.{of_parts}
+use Prim.Native.Nat.{◌-◌, ◌*◌, ◌≤◌}
+use lib.ListN.{length}
+use Rattle.answers.specs.Pyramid.{folded}
 use Rattle.unfolding.specs.Told.{Levels}
 use Rattle.unfolding.proofs.Tellings.{Here}
 use Rattle.unfolding.proofs.telling.tell.Given as goal
 
 abbrev pub invariant-loop-l : goal.invariant-loop-l
-invariant-loop-l l = (l.l ≤ l.top) × (l.from ≡ l.l * l.size) × (length l.reads ≡ 20480) × (length l.stands ≡ 20480) × (length l.counts ≡ 33) × (length l.since ≡ 33) × ((rows : List ℕ) (L : Levels (of_parts l.n.0 l.darts l.top rows l.lambda l.delta) l.tables) → Here (of_parts l.n.0 l.darts l.top rows l.lambda l.delta) l.tables L l.initial.counts l.initial.since l.counts l.since (take l.size l.reads) (take l.size l.stands) l.l)
+invariant-loop-l l = (l.l ≤ l.top) × (l.from ≡ l.l * l.size) × (length l.reads ≡ l.size) × (length l.stands ≡ l.size) × (length l.counts ≡ 33) × (length l.since ≡ 33) × ((L : Levels (folded l.pyramid) l.tables) → Here (folded l.pyramid) l.tables L l.initial.counts l.initial.since l.counts l.since l.reads l.stands l.l)
 
 abbrev pub decreases-loop-l : goal.decreases-loop-l
 decreases-loop-l l = l.top - l.l

@@ -1,22 +1,16 @@
--- `writing::putting::put_header` meets its contract: a head, and four bytes after it. Assumes nothing.
+-- `writing::putting::put_header` meets its contract. Assumes nothing.
 use mathlib.Core.Path.{refl}
-use mathlib.Core.List.{List, [], ◌∷◌}
-use Prim.Native.Nat.{ℕ, ◌/◌, ◌%◌}
+use mathlib.Core.List.{[], ◌∷◌}
+use Prim.Native.Nat.{◌/◌, ◌%◌}
 use native.Mathlib.Omega.{arith}
-use lib.ListN.{get_or, length-set}
-use Rattle.maps.specs.Write.{in_two_bytes}
-use Rattle.taking.proofs.Laid.{laid_none, laid_more}
-use Rattle.writing.proofs.Put.{put_field}
+use Rattle.maps.specs.Write.{field_written, in_two_bytes}
+use Rattle.writing.proofs.Put.{high_byte, put_part}
 use Rattle.writing.proofs.putting.put_header.Goals as goal
 
 pub returns : goal.returns
-unfolding in_two_bytes
+unfolding field_written in_two_bytes
 returns c =
-    let s = c in
-    let a = s.args in
-    let head = s.put_head.ensures in
-    let body : List ℕ = a.sizes.n.0 ∷ a.sizes.h.0 ∷ a.sizes.darts % 256 ∷ a.sizes.darts / 256 ∷ [] in
-    let one = laid_more 3 a.sizes.n.0 (laid_none (λ (k : ℕ). get_or body k 0) 3 s.put_head.new.to) refl (omega (arith, head.laid.long)) refl in
-    let two = laid_more 4 a.sizes.h.0 one refl (simp length-set (omega (arith, head.laid.long))) refl in
-    let three = laid_more 5 c.low_byte.result two refl (simp length-set (omega (arith, head.laid.long))) c.low_byte.ensures in
-    put_field head (record { laid = laid_more 6 c.high_byte.result three refl (simp length-set (omega (arith, head.laid.long))) c.high_byte.ensures }) refl refl
+    let s = c.args.sizes in
+    let body = 0x01 ∷ 4 ∷ 0 ∷ s.n.0 ∷ s.h.0 ∷ s.darts % 256 ∷ s.darts / 256 % 256 ∷ [] in
+    let e = high_byte s.darts (omega arith) in
+    rw (← e, c.copy_from_slice.ensures.after, c.to_le_bytes-darts.ensures) (put_part body 0 7 c.args.to.now refl c.requires)

@@ -1,12 +1,11 @@
--- `writing::putting::put_rows` meets its contract. The invariant: the rows passed are put, `from` and `at` are where the next stands. The measure: the rows left. Assumes nothing.
-use mathlib.Core.Path.{◌≡◌}
-use Prim.Native.Nat.{◌+◌, ◌*◌, ◌-◌, ◌≤◌}
+-- `writing::putting::put_rows` meets its contract. The invariant: the rows passed are put. The measure: the rows left. Assumes nothing.
+use Prim.Native.Nat.{◌-◌, ◌≤◌}
 use Rattle.maps.specs.Write.{rows_written}
 use Rattle.writing.specs.Put.{Put}
 use Rattle.writing.proofs.putting.put_rows.Given as goal
 
 abbrev pub invariant-loop-i : goal.invariant-loop-i
-invariant-loop-i l = (l.i ≤ l.i-end) × (l.from ≡ l.i * l.darts) × (l.at ≡ 7 + l.i * (3 + 2 * l.darts)) × Put (rows_written l.darts l.rows l.i) 7 l.initial.to l.to
+invariant-loop-i l = (l.i ≤ l.i-end) × Put (rows_written l.darts l.rows l.i) 7 l.initial.to l.to
 
 abbrev pub decreases-loop-i : goal.decreases-loop-i
 decreases-loop-i l = l.i-end - l.i

@@ -1,7 +1,0 @@
--- `joining::join_lambda` meets its contract. The invariant: the darts passed have their joined Λ. The measure: the darts left. Assumes nothing.
-use mathlib.Core.Path.{refl}
-use Rattle.climbing.proofs.Rows.{row_all}
-use Rattle.joining.proofs.join_lambda.Goals as goal
-
-pub returns : goal.returns
-returns c = row_all c.loop-d.invariant.1 _ refl c.loop-d-test.false
