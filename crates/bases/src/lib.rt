@@ -277,7 +277,7 @@ fn check_table(explicit: bool, table: &Table<'_>) -> Result<(), Refusal>
     map_refused(explicit, table)
 }
 
-// Check a base.
+// Check a base. n, darts and rows are apart, as C lends them.
 pub fn check_base(n: Dim, darts: u16, rows: &[u16]) -> Result<(), Refusal>
     ensures { verdict_of result ≡ check_base n.0 darts rows.now }
 {
@@ -289,7 +289,7 @@ pub fn check_base(n: Dim, darts: u16, rows: &[u16]) -> Result<(), Refusal>
     check_table(false, &table)
 }
 
-// Check an explicit level. Public jobs are lent n, darts and entries apart, as C lends them.
+// Check an explicit level. n, darts and entries are apart, as callers lend them.
 pub fn check_explicit(n: Dim, darts: u16, table: &[u16]) -> Result<(), Refusal>
     ensures { verdict_of result ≡ check_explicit n.0 darts table.now }
 {

@@ -162,7 +162,7 @@ fn fold_in(n: Dim, h: Level, row: &[u8], lambda: &mut [u8], delta: &mut [u8])
     ensures lambda_left { lambda.new ≡ listed (addΛ n.0 h.0 (each lambda.old) (each row.now)) (length row.now) }
     ensures delta_left { delta.new ≡ listed (addΔ n.0 (each delta.old) (each row.now)) (length row.now) }
 {
-    // By index: through an adapter of iter_mut a proof does not see what was written.
+    // By index: Λ and Δ are both written, by what stands in three rows.
     for d in 0..row.len() {
         let mark = answers::delta_at(row, d);
         let new_lambda = lambda_after(n, h, answers::lambda_at(lambda, d), mark);

@@ -107,10 +107,8 @@ fn sides_paired(darts: u16, side: &[u16]) -> bool
     ensures { result ≡ true → (d : ℕ) → d < darts → each side.now d ≡ bit_xor d 1 }
 {
     let mut all = true;
-    // By dart: its entry is compared with its number.
-    for d in 0..darts {
-        let place = d as usize;
-        all = all & (side[place] == (d ^ 1));
+    for (d, entry) in side.iter().enumerate() {
+        all = all & (*entry == (d as u16 ^ 1));
     }
     all
 }

@@ -39,10 +39,9 @@ fn outside(darts: u16, i: Dim, row: &[u16]) -> Result<(), Refusal>
     if bases::largest(row) < darts {
         return Ok(());
     }
-    // By dart: its number is that of the refusal.
-    for d in 0..darts {
-        if darts <= row[d as usize] {
-            return Err(Refusal::Strays(Level(0), i, d));
+    for (d, entry) in row.iter().enumerate() {
+        if darts <= *entry {
+            return Err(Refusal::Strays(Level(0), i, d as u16));
         }
     }
     Ok(())
@@ -53,11 +52,9 @@ fn not_twice(darts: u16, edges: &[u16]) -> Result<(), Refusal>
     requires { Row darts edges.now }
     ensures { verdict_of result ≡ edges_back darts edges.now }
 {
-    // By dart: where its partner leads is compared with its number.
-    for d in 0..darts {
-        let partner = edges[d as usize] as usize;
-        if edges[partner] != d {
-            return Err(Refusal::NotTwice(Dim(0), d));
+    for (d, partner) in edges.iter().enumerate() {
+        if edges[*partner as usize] as usize != d {
+            return Err(Refusal::NotTwice(Dim(0), d as u16));
         }
     }
     Ok(())
@@ -69,11 +66,10 @@ fn two_to_one(darts: u16, vertices: &[u16]) -> Result<(), Refusal>
     ensures { verdict_of result ≡ number21 darts vertices.now }
 {
     let mut had = [false; PARTNER_DARTS as usize];
-    // By dart: its number is that of the refusal.
-    for d in 0..darts {
-        let image = vertices[d as usize] as usize;
+    for (d, vertex) in vertices.iter().enumerate() {
+        let image = *vertex as usize;
         if had[image] {
-            return Err(Refusal::TwoToOne(d));
+            return Err(Refusal::TwoToOne(d as u16));
         }
         had[image] = true;
     }
@@ -106,10 +102,8 @@ fn put_edges(darts: u16, edges: &[u16], rows: &mut [u16])
     ensures written { Pairs darts 0 (λ d. 2 * each edges.now d) rows.new }
     ensures kept { Kept darts 0 rows.old rows.new }
 {
-    // By dart: it gives the places that are written.
-    for d in 0..darts {
-        let from = d as usize;
-        put_pair(2 * edges[from], 2 * from, rows);
+    for (d, partner) in edges.iter().enumerate() {
+        put_pair(2 * *partner, 2 * d, rows);
     }
 }
 
@@ -121,12 +115,9 @@ fn put_vertices(darts: u16, vertices: &[u16], rows: &mut [u16])
     ensures kept { Kept darts (2 * darts) rows.old rows.new }
 {
     let start = 2 * darts as usize;
-    // By dart: it gives the places that are written.
-    for d in 0..darts {
-        let from = d as usize;
-        let successor = vertices[from];
-        let even = 2 * successor;
-        let odd = 2 * d + 1;
+    for (d, successor) in vertices.iter().enumerate() {
+        let even = 2 * *successor;
+        let odd = 2 * d as u16 + 1;
         rows[start + odd as usize] = even;
         rows[start + even as usize] = odd;
     }

@@ -1,5 +1,6 @@
 -- The pyramid with two kernels joined: its levels up to theirs are those of the pyramid, and its kernel there is the joined one, which 9 alone can refuse. Assumes nothing.
 use mathlib.Core.Path.{◌≡◌, refl, sym, ap, subst, ◌∙◌}
+use mathlib.Core.Bool.{true, false}
 use mathlib.Core.List.{List}
 use Prim.Native.Nat.{ℕ, suc, ◌-◌, ◌≤◌, ◌<◌}
 use native.Mathlib.Omega.{arith}
@@ -18,9 +19,11 @@ use Rattle.laws.proofs.Tables.{length_listed}
 use Rattle.facts.proofs.Checks.{checked_kernels}
 use Rattle.facts.proofs.Joining.{allowed_joined, marks_lower, level_lower, table_lower}
 use Rattle.facts.proofs.JoinedJobs.{nine_alone, each_joined}
-use Rattle.answers.specs.Numbers.{refusal_of}
+use Rattle.answers.specs.Numbers.{refusal_of, verdict_of}
 use Rattle.answers.specs.declared.Refusal.{Refusal}
 use Rattle.answers.proofs.Refusals.{refused_then, refusal_keeps}
+use Rattle.std.specs.Prelude.{Result, Ok, Err}
+use Rattle.std.specs.Result.{is_err}
 use Rattle.kernels.specs.Strings.{kernel_row, Linked, Strung}
 use Rattle.kernels.specs.Ready.{Tested}
 use Rattle.climbing.specs.Climb.{Base, kernel_of, climbs, climb_leaves, climbs_to, climb_to_leaves, Climbed}
@@ -182,9 +185,10 @@ module _ (P : Folded) (l : ℕ) where
     late = rw (← all)
 
     -- the joined kernel is refused, and its level is climbed to again
-    pub not_joined : (r : Refusal) {after : List ℕ} → refusal_of r ≡ joined_verdict P l → climbs_to P l ≡ accepted → after ≡ climb_to_leaves P l → Left (refusal_of r) after
+    pub not_joined : {A : Type 0} (found : Result A Refusal) {after : List ℕ} → true ≡ is_err found → verdict_of found ≡ joined_verdict P l → climbs_to P l ≡ accepted → after ≡ climb_to_leaves P l → Left (verdict_of found) after
     unfolding left_behind
-    not_joined r e below leaves =
+    not_joined (Ok _) x e below leaves = absurd cc
+    not_joined (Err r) x e below leaves =
         let kernel = joined_verdict P l in
         let T = table_at P in
         let here : climb_to_leaves P l ≡ T l = rw below in (
@@ -194,5 +198,6 @@ module _ (P : Folded) (l : ℕ) where
         )
 
     -- all are accepted
-    pub all_joined : {after : List ℕ} → accepted ≡ joined_verdict P l → after ≡ climb_leaves P → Left accepted after
-    all_joined e leaves = (rw (← all) e, leaves ∙ rw (← all, ← e))
+    pub all_joined : {A : Type 0} (found : Result A Refusal) {after : List ℕ} → false ≡ is_err found → verdict_of found ≡ joined_verdict P l → after ≡ climb_leaves P → Left (verdict_of found) after
+    all_joined (Ok _) x e leaves = (rw (← all) e, leaves ∙ rw (← all, ← e))
+    all_joined (Err r) x e leaves = absurd cc

@@ -79,9 +79,8 @@ pub fn climb(pyramid: &Pyramid<'_>, level: Level, table: &mut [u16]) -> Result<(
     climbing::go_on(pyramid, &strings, Level(0), level, table)?;
     let found = tested(pyramid, level, table);
     climbing::go_on(pyramid, &strings, level, pyramid.sizes.h, table)?;
-    if let Err(r) = found {
+    if found.is_err() {
         let _ = climbing::climb_to(pyramid, level, table);
-        return Err(r);
     }
-    Ok(())
+    found
 }

@@ -54,7 +54,7 @@ pub fn put(darts: usize, i: Dim, d: usize, entry: u16, table: &mut [u16])
 // The heads of the strings: one for each number that a byte of Λ may be.
 pub const HEADS: usize = 256;
 
-// The darts strung by kernel: the first of each kernel, and the next after each dart. Who strings darts writes the empty strings out: a function or a constant that gave them would take their memory twice.
+// The darts strung by kernel: the first of each kernel, and the next after each dart, by number, since no crate uses the heap. Who strings darts writes the empty strings out: a function or a constant that gave them would take their memory twice.
 #[derive(Drop)]
 pub struct Strings {
     pub head: [u16; HEADS],

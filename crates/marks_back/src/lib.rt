@@ -28,11 +28,10 @@ fn fill_marks(h: Level, lambda: &[u8], delta: &[u8], level: Level, out: &mut [u8
     requires { (length lambda.now ≡ length out.old) × (length delta.now ≡ length out.old) }
     ensures { out.new ≡ listed (marks h.0 (each lambda.now) (each delta.now) level.0) (length out.old) }
 {
-    // By index: through an adapter of iter_mut a proof does not see what was written.
-    for d in 0..out.len() {
+    for (d, entry) in out.iter_mut().enumerate() {
         let own = answers::lambda_at(lambda, d);
         let mark = mark_at(h, own, answers::delta_at(delta, d), level);
-        out[d] = mark.0;
+        *entry = mark.0;
     }
 }
 

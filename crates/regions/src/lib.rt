@@ -23,7 +23,7 @@ fn contracted(pyramid: &Pyramid<'_>) -> Result<(), Refusal>
     if !answers::contracts(Mark(largest)) {
         return Ok(());
     }
-    // By dart: its number is that of the refusal.
+    // By dart: its number, a u16 already, is that of the refusal.
     for d in 0..pyramid.sizes.darts {
         if answers::contracts(answers::delta_at(pyramid.delta, d as usize)) {
             return Err(Refusal::Contracted(d));
@@ -49,11 +49,10 @@ fn region_choices(pyramid: &Pyramid<'_>, level: Level) -> [u8; ROOM]
     ensures { RegionChoices pyramid.now.sizes.n.0 pyramid.now.sizes.darts (each pyramid.now.lambda.now) (each pyramid.now.delta.now) level.0 result }
 {
     let mut choices = [0u8; ROOM];
-    // By index: through an adapter of iter_mut a proof does not see what was written.
-    for d in 0..pyramid.lambda.len() {
+    for (d, entry) in choices[..pyramid.lambda.len()].iter_mut().enumerate() {
         let lambda = answers::lambda_at(pyramid.lambda, d);
         let delta = answers::delta_at(pyramid.delta, d);
-        choices[d] = rows_from(pyramid.sizes.n, lambda, delta, level);
+        *entry = rows_from(pyramid.sizes.n, lambda, delta, level);
     }
     choices
 }

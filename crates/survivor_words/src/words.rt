@@ -139,10 +139,9 @@ fn fill_words(lambda: &[u8], level: Level, words: &mut [u64]) -> u32
     ensures words_left { words.new ≡ listed (word_of (length lambda.now) (each lambda.now) level.0) 64 }
 {
     let mut count: u32 = 0;
-    // By index: through an adapter of iter_mut a proof does not see what was written.
-    for w in 0..64usize {
+    for (w, entry) in words.iter_mut().enumerate() {
         let x = any_word(lambda, level, w);
-        words[w] = x;
+        *entry = x;
         count = count + u64::count_ones(x);
     }
     count

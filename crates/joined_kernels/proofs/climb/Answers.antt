@@ -61,8 +61,8 @@ returns-in_err-go_on-2 c =
     let both = not_climbed P c.args.level.0 c.in_err-go_on-2.field-0.0 (told (h.verdict rows at) c.in_err-go_on-2.was ∙ to_top P) (h.table_left rows at ∙ top_left P) in
     rw (passed_on c.from_residual-in_err-go_on-2.result c.from_residual-in_err-go_on-2.ensures.1) (record { verdict = both.0; table_left = both.1 })
 
-pub returns-in-Err : goal.returns-in-Err
-returns-in-Err c =
+pub returns-then-is_err : goal.returns-then-is_err
+returns-then-is_err c =
     let P : Folded = let a = c.args in folded a.pyramid.now in
     let b = c.begin.ensures in
     let g = c.go_on.ensures in
@@ -71,11 +71,11 @@ returns-in-Err c =
     let at = climb_reached start (omega (arith, c.requires.1)) (told (g.verdict rows start) c.in_ok-go_on.was) (g.table_left rows start) in
     let h = c.go_on-2.ensures in
     let all : accepted ≡ climbs P = told (h.verdict rows at) c.in_ok-go_on-2.was ∙ to_top P in
-    let both = not_joined P c.args.level.0 all c.in-Err.r (told (c.tested-found.ensures (sym all)) c.in-Err.is) (sym (told (g.verdict rows start) c.in_ok-go_on.was)) c.climb_to.ensures.table_left in
+    let both = not_joined P c.args.level.0 all c.tested-found.result c.if-is_err.ensures.value (c.tested-found.ensures (sym all)) (sym (told (g.verdict rows start) c.in_ok-go_on.was)) c.climb_to.ensures.table_left in
     record { verdict = both.0; table_left = both.1 }
 
-pub returns : goal.returns
-returns c =
+pub returns-else-is_err : goal.returns-else-is_err
+returns-else-is_err c =
     let P : Folded = let a = c.args in folded a.pyramid.now in
     let b = c.begin.ensures in
     let g = c.go_on.ensures in
@@ -84,5 +84,5 @@ returns c =
     let at = climb_reached start (omega (arith, c.requires.1)) (told (g.verdict rows start) c.in_ok-go_on.was) (g.table_left rows start) in
     let h = c.go_on-2.ensures in
     let all : accepted ≡ climbs P = told (h.verdict rows at) c.in_ok-go_on-2.was ∙ to_top P in
-    let both = all_joined P c.args.level.0 all (told (c.tested-found.ensures (sym all)) c.in_default.is) (h.table_left rows at ∙ top_left P) in
+    let both = all_joined P c.args.level.0 all c.tested-found.result c.if-is_err.ensures.value (c.tested-found.ensures (sym all)) (h.table_left rows at ∙ top_left P) in
     record { verdict = both.0; table_left = both.1 }

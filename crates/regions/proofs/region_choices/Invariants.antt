@@ -8,4 +8,4 @@ use Rattle.regions.specs.Searches.{region_rows}
 use Rattle.regions.proofs.region_choices.Given as goal
 
 abbrev pub invariant-loop-d : goal.invariant-loop-d
-invariant-loop-d l = (l.d ≤ l.d-end) × (length l.choices ≡ 4096) × ((k : ℕ) → k < l.d → (j : ℕ) → j ≤ l.pyramid.sizes.n.0 → chosen l.choices j k ≡ region_rows l.pyramid.sizes.n.0 (each l.pyramid.lambda.now) (each l.pyramid.delta.now) l.level.0 j k)
+invariant-loop-d l = (length l.entry-items ≡ length l.pyramid.lambda.now) × ((k : ℕ) → k < l.d → (j : ℕ) → j ≤ l.pyramid.sizes.n.0 → chosen l.entry-items j k ≡ region_rows l.pyramid.sizes.n.0 (each l.pyramid.lambda.now) (each l.pyramid.delta.now) l.level.0 j k)

@@ -8,7 +8,7 @@ pub returns-then-edges-partner : goal.returns-then-edges-partner
 returns-then-edges-partner c =
     let a = c.args in
     let l = c.loop-d in
-    sym (back_first a.darts a.edges.now l.d c.loop-d-test.true l.invariant.1 c.if-edges-partner.true)
+    sym (back_first a.darts a.edges.now l.d (omega (arith, c.loop-d-test.true, c.requires.exact)) l.invariant.1 c.if-edges-partner.true)
 
 pub returns : goal.returns
 returns c =

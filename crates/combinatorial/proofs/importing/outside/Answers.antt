@@ -9,11 +9,11 @@ returns-then-largest-darts c =
     let a = c.args in
     sym (inside_outside a.darts a.i.0 a.row.now (λ x f. omega (arith, c.largest.ensures.above x (omega (arith, c.requires)))))
 
-pub returns-then-darts-row : goal.returns-then-darts-row
-returns-then-darts-row c =
+pub returns-then-darts-entry : goal.returns-then-darts-entry
+returns-then-darts-entry c =
     let a = c.args in
     let l = c.loop-d in
-    sym (outside_first a.darts a.i.0 a.row.now l.d c.loop-d-test.true l.invariant.1 c.if-darts-row.true)
+    sym (outside_first a.darts a.i.0 a.row.now l.d (omega (arith, c.loop-d-test.true, c.requires)) l.invariant.1 c.if-darts-entry.true)
 
 pub returns : goal.returns
 returns c =

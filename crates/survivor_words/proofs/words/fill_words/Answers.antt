@@ -1,4 +1,4 @@
--- `survivor_words::fill_words` meets its contract. The invariant: the words passed are stored, and their ones are counted. The measure: the words left. Assumes nothing.
+-- `survivor_words::fill_words` meets its contract. The invariant: the words passed are stored, and their ones are counted. Assumes nothing.
 use mathlib.Core.Path.{◌≡◌, refl, ap, ◌∙◌}
 use mathlib.Core.List.{[]}
 use Prim.Native.Nat.{◌≤◌, zero-le}
