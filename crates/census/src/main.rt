@@ -11,13 +11,13 @@ use std::io;
 fn level_line(
     to: &impl Print,
     n: Dim,
-    level: usize,
+    level: Level,
     counts: &[u16; MOST_ROWS],
     sum: i32,
 ) -> io::Result<()>
     requires { n.0 ≤ 4 }
 {
-    print!(to; "{level}")?;
+    print!(to; "{}", level.0)?;
     let rows = usize::from(n.0) + 1;
     for count in &counts[..rows] {
         print!(to; " {count}")?;
@@ -35,9 +35,8 @@ fn all_levels(
 ) -> io::Result<()>
     requires { (n.0 ≤ 4) × (h.0 ≤ 32) }
 {
-    let levels = usize::from(h.0) + 1;
-    for (level, (counts, sum)) in cells[..levels].iter().zip(&sums[..levels]).enumerate() {
-        level_line(to, n, level, counts, *sum)?;
+    for (level, (counts, sum)) in (0..=h.0).zip(cells.iter().zip(sums)) {
+        level_line(to, n, Level(level), counts, *sum)?;
     }
     Ok(())
 }

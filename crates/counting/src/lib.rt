@@ -13,7 +13,7 @@ ghost use Rattle.answers.specs.Numbers.{verdict_of};
 ghost use Rattle.counting.specs.Counts.{zeroed, Counted};
 ghost use Rattle.counting.specs.Left.{CensusLeft};
 
-use answers::{ABSENT, LEVELS, Level, MOST_ROWS, Pyramid, ROOM, Refusal, Sizes, Table};
+use answers::{ABSENT, LEVELS, Level, MOST_ROWS, Pyramid, ROOM, Refusal, Table};
 use kernels::{HEADS, Strings};
 use level::count_level;
 pub use slices::census_into;

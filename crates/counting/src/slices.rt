@@ -6,17 +6,17 @@ ghost use Rattle.answers.specs.Numbers.{verdict_of};
 ghost use Rattle.counting.specs.Slices.{RowPut, CellsPut};
 ghost use Rattle.counting.specs.Left.{CensusPutLeft};
 
-use answers::{LEVELS, MOST_ROWS, Pyramid, Refusal};
+use answers::{LEVELS, Level, MOST_ROWS, Pyramid, Refusal};
 
 // The counts of all levels.
 const COUNTS: usize = LEVELS * MOST_ROWS;
 
 // One row of counts, to its five places.
-fn put_row(row: &[u16; MOST_ROWS], level: usize, cells: &mut [u16])
-    requires { (level < 33) × (length cells.old ≡ 165) }
-    ensures { RowPut row.now level cells.old cells.new }
+fn put_row(row: &[u16; MOST_ROWS], level: Level, cells: &mut [u16])
+    requires { (level.0 < 33) × (length cells.old ≡ 165) }
+    ensures { RowPut row.now level.0 cells.old cells.new }
 {
-    let start = MOST_ROWS * level;
+    let start = MOST_ROWS * usize::from(level.0);
     answers::copy(row, &mut cells[start..start + MOST_ROWS]);
 }
 
@@ -26,7 +26,7 @@ fn put_cells(counts: &[[u16; MOST_ROWS]; LEVELS], cells: &mut [u16])
     ensures { CellsPut counts.now cells.new }
 {
     for (l, row) in counts.iter().enumerate() {
-        put_row(row, l, cells);
+        put_row(row, Level(l as u8), cells);
     }
 }
 

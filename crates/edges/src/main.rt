@@ -75,16 +75,16 @@ fn darts(to: &impl Print) -> io::Result<()> {
 }
 
 // A pyramid of one dart that stays to height h.
-fn height(to: &impl Print, name: &str, h: u8) -> io::Result<()> {
+fn height(to: &impl Print, name: &str, h: Level) -> io::Result<()> {
     let sizes = Sizes {
         n: Dim(1),
-        h: Level(h),
+        h,
         darts: 1,
     };
     let pyramid = Pyramid {
         sizes,
         rows: &[0u16, 0],
-        lambda: &[h],
+        lambda: &[h.0],
         delta: &[1u8],
     };
     checked(to, name, checking::check(&pyramid, &mut [0u16; 2]))
@@ -183,8 +183,8 @@ fn main(rt: HostRuntime) -> io::Result<()> {
     unchecked_reading(&rt)?;
     dimensions(&rt)?;
     darts(&rt)?;
-    height(&rt, "h 32", 32)?;
-    height(&rt, "h 33", 33)?;
+    height(&rt, "h 32", Level(32))?;
+    height(&rt, "h 33", Level(33))?;
     added(&rt, "added at h 31", Level(31))?;
     added(&rt, "added at h 32", Level(32))?;
     one_byte_rows(&rt, "one-byte rows at N 256", 256)?;

@@ -23,7 +23,6 @@ use Rattle.survivor_words.specs.Answers.{count_of_survivors}
 use Rattle.checking.specs.Answers.{height_of}
 use Rattle.taking.specs.Answers.{Outcome, saying, taken_of}
 use Rattle.writing.specs.Answers.{Outcome as Writing, written_of}
-use Rattle.maps.specs.Decimation.{double}
 use Rattle.decimation.specs.Answers.{Outcome as Shrinking, factor_of}
 use Rattle.decimation.specs.declared.Factor.{Factor}
 use Rattle.decimation.specs.declared.Factor.TheVariants.{By, Empty}

@@ -2,10 +2,8 @@
 #![tactic(auto)]
 
 ghost use Rattle.std.specs.Prelude.{◌≡◌, ℕ, suc, ◌+◌, ◌-◌, ◌*◌, ◌≤◌, ◌<◌, length};
-ghost use Rattle.maps.specs.Mark.{stay};
-ghost use Rattle.maps.specs.Table.{each, absent};
+ghost use Rattle.maps.specs.Table.{each};
 ghost use Rattle.maps.specs.Folded.{survives};
-ghost use Rattle.maps.specs.Rebase.{packed};
 ghost use Rattle.packing.specs.Packing.{RowInside, RowPacked, EntriesInside, count_on, ranks_on, packed_rows, packedΛ, packedΔ, packed_old};
 
 use answers::{ABSENT, Dim, Level, STAY};

@@ -1,8 +1,8 @@
 // Region names of a level, from the base and the marks alone. Takes 16 KiB of local memory: choices, a set and a queue of 4,096 darts. Assumes nothing.
 #![tactic(auto)]
 
-ghost use Rattle.std.specs.Prelude.{◌≡◌, true, ℕ, ◌≤◌, ◌<◌, length, get_or};
-ghost use Rattle.maps.specs.Verdict.{accepted, scan};
+ghost use Rattle.std.specs.Prelude.{◌≡◌, ℕ, ◌≤◌, ◌<◌, length, get_or};
+ghost use Rattle.maps.specs.Verdict.{scan};
 ghost use Rattle.maps.specs.Table.{each};
 ghost use Rattle.maps.specs.Folded.{base};
 ghost use Rattle.maps.specs.Regions.{at23, regions_lent, regions_table};

@@ -1,5 +1,5 @@
 // Survivor words of a level, and the number of ones in them. Assumes nothing.
-ghost use Rattle.std.specs.Prelude.{◌≡◌, Bool, [], ℕ, ◌+◌, ◌*◌, ◌<◌, ◌≤◌, ◌&&◌, length, eqb, ltb, max, position};
+ghost use Rattle.std.specs.Prelude.{◌≡◌, Bool, ℕ, ◌+◌, ◌*◌, ◌<◌, ◌≤◌, ◌&&◌, length, eqb, ltb, max, position};
 ghost use Rattle.std.specs.List.{fold};
 ghost use Rattle.std.specs.Int.Count.{ones};
 ghost use Rattle.maps.specs.Verdict.{scan};

@@ -8,7 +8,7 @@ ghost use Rattle.maps.specs.UnfoldAll.{unfold_all_lent, unfold_all_tables, unfol
 ghost use Rattle.answers.specs.Pyramid.{folded};
 ghost use Rattle.answers.specs.Numbers.{verdict_of};
 
-use answers::{LEVELS, Pyramid, Refusal, Sizes};
+use answers::{LEVELS, Pyramid, Refusal};
 use stacking::stack;
 use telling::tell;
 

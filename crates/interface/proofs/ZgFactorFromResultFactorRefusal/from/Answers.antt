@@ -1,7 +1,6 @@
 -- The struct of a decimation's answer meets its law: a factor of 0 is the double 0. Assumes nothing.
 use mathlib.Core.Path.{sym, ap, ◌∙◌}
-use Prim.Native.Nat.{ℕ}
-use lib.Ieee.{Float, of_int, round, of_bits}
+use lib.Ieee.{of_int, round, of_bits}
 use Rattle.maps.specs.Decimation.{double}
 use Rattle.decimation.specs.Answers.{factor_of}
 use Rattle.interface.specs.Flat.{factor_for}
