@@ -1,6 +1,9 @@
 """docs/BUDGETS.md: what is proved, what is derived from the machine code, what was found by search, what is assumed."""
 import hashlib
+import io
 import re
+import subprocess
+import tarfile
 from collections import defaultdict
 from math import ceil
 from pathlib import Path
@@ -258,13 +261,26 @@ def lost_theorems(lines):
             yield f"bench/bound/loops.table cites {name}, which isn't in {file}"
 
 
+def sources_of(tree):
+    """The text of each crate's sources, as git has crates/ under a tree."""
+    packed = subprocess.run(["git", "-C", str(ROOT), "archive", tree], check=True, capture_output=True).stdout
+    texts = {}
+    with tarfile.open(fileobj=io.BytesIO(packed)) as files:
+        for member in files:
+            crate, *inside = member.name.split("/")
+            if inside[:1] == ["src"] and member.name.endswith(".rt"):
+                texts[crate] = texts.get(crate, "") + files.extractfile(member).read().decode("utf-8")
+    return texts
+
+
 def lost_sources(lines):
-    """Source functions that lines name and that aren't there."""
+    """Source functions that lines name and that the sources of the archives, by the tree that the page names, haven't."""
+    tree = re.search(r"as git has it under tree (\w+):", (ROOT / "docs" / "BUDGETS.md").read_text(encoding="utf-8"))[1]
+    texts = sources_of(tree)
     for line in lines:
         for crate, name in re.findall(r"\b([a-z_]+)::([a-z_0-9]+)", line.source):
-            files = (ROOT / "crates" / crate / "src").glob("*.rt")
-            if not any(re.search(rf"\bfn {name}\b", path.read_text(encoding="utf-8")) for path in files):
-                yield f"bench/bound/loops.table:{line.number} names {crate}::{name}, which is no function of the sources"
+            if not re.search(rf"\bfn {name}\b", texts.get(crate, "")):
+                yield f"bench/bound/loops.table:{line.number} names {crate}::{name}, which is no function of the sources under tree {tree}"
 
 
 def theorem_rows(lines):

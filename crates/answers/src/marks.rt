@@ -117,8 +117,8 @@ fn any_refused(n: Dim, h: Level, lambda: &[u8], delta: &[u8]) -> bool
     ensures { result ≡ false → (x : ℕ) → x < length lambda.now → refused_marks n.0 h.0 (each lambda.now x) (each delta.now x) ≡ false }
 {
     let mut any = false;
-    for (own, mark) in lambda.iter().zip(delta) {
-        any = any | marks_refused(n, h, Level(*own), Mark(*mark));
+    for (d, own) in lambda.iter().enumerate() {
+        any = any | marks_refused(n, h, Level(*own), delta_at(delta, d));
     }
     any
 }

@@ -3,7 +3,7 @@ ghost use Rattle.std.specs.Prelude.{◌≡◌, not, ◌+◌, ◌*◌, ◌≤◌,
 ghost use Rattle.maps.specs.Table.{entry, each};
 ghost use Rattle.maps.specs.Explicit.{present};
 ghost use Rattle.maps.specs.Folded.{survivors};
-ghost use Rattle.answers.specs.Rows.{Corner};
+ghost use Rattle.answers.specs.Rows.{Corner, ends_alike};
 
 use super::{ABSENT, Dim, Level, Mark};
 
@@ -35,7 +35,7 @@ impl Table<'_> {
     // Does dart d end at the same place by row i and then j as by j and then i?
     pub fn commute(&self, i: Dim, j: Dim, d: u16) -> bool
         requires { Corner self.now.darts self.now.entries.now i.0 j.0 d }
-        ensures { result ≡ eqb (entry self.now.darts self.now.entries.now j.0 (entry self.now.darts self.now.entries.now i.0 d)) (entry self.now.darts self.now.entries.now i.0 (entry self.now.darts self.now.entries.now j.0 d)) }
+        ensures { result ≡ ends_alike self.now.darts self.now.entries.now i.0 j.0 d }
     {
         let by_i = self.at(i, d);
         let by_j = self.at(j, d);

@@ -84,7 +84,7 @@ fn second_row(pyramid: &Pyramid<'_>, l: Level, met: Place) -> Option<Dim>
     ensures { Second (each pyramid.now.lambda.now) (each pyramid.now.delta.now) l.0 met.row.0 met.dart result }
 {
     let at = met.dart as usize;
-    if answers::lambda_at(pyramid.lambda, at) != l {
+    if !answers::in_kernel(answers::lambda_at(pyramid.lambda, at), l) {
         return None;
     }
     let Passage(first, second) = answers::between(answers::delta_at(pyramid.delta, at));
@@ -102,7 +102,7 @@ fn same_kernel(pyramid: &Pyramid<'_>, l: Level, passed: u16, reached: u16) -> bo
     let own = answers::lambda_at(pyramid.lambda, reached as usize);
     let mark = answers::delta_at(pyramid.delta, reached as usize);
     let other = answers::delta_at(pyramid.delta, passed as usize);
-    own == l && mark == other
+    answers::in_kernel(own, l) && mark == other
 }
 
 // The walk over the level below l, whose every step is a reading there: it ends at the first dart that is on level l. A dart met that is not is passed by two steps: it must be in the kernel below, met by its mark's first row, and the dart that the second row leads to must be there with the same mark, else 14.

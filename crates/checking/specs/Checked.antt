@@ -1,14 +1,18 @@
 -- The parts of a check's verdict. Assumes nothing: these are definitions.
-use Rattle.std.specs.Prelude.{Bool, true, ◌&&◌, List, ℕ, suc, ◌*◌}
-use Rattle.maps.specs.Verdict.{Verdict, ◌then◌}
+use Rattle.std.specs.Prelude.{◌≡◌, Bool, true, ◌&&◌, List, ℕ, suc, ◌*◌, length}
+use Rattle.maps.specs.Verdict.{Verdict, accepted, ◌then◌}
 use Rattle.maps.specs.Sizes.{has_length}
 use Rattle.maps.specs.Folded.{Folded, base, lambda_of, delta_of}
 use Rattle.maps.specs.Check.{check_map, check8}
 use Rattle.answers.specs.Lent.{lent_of}
 
+-- the lengths of base rows, Λ and Δ, and of what else is lent
+abbrev pub lengths_with : Folded → Bool → Bool
+lengths_with f others = has_length f.rows (suc f.n * f.N) && (has_length f.lambda f.N && (has_length f.delta f.N && others))
+
 -- 1 to 4 of base rows and marks, and of what else is lent
 abbrev pub sizes_with : Folded → Bool → Verdict
-sizes_with f others = lent_of f.n f.N f.h (has_length f.rows (suc f.n * f.N) && (has_length f.lambda f.N && (has_length f.delta f.N && others)))
+sizes_with f others = lent_of f.n f.N f.h (lengths_with f others)
 
 -- of base rows, marks and a table
 abbrev pub lent_sizes : Folded → List ℕ → Verdict
@@ -17,6 +21,14 @@ lent_sizes f table = sizes_with f (has_length table (suc f.n * f.N))
 -- 1, 2 and 4 of base rows
 abbrev pub base_sizes : ℕ → ℕ → List ℕ → Verdict
 base_sizes n N rows = lent_of n N 0 (has_length rows (suc n * N))
+
+-- base rows that pass these, with Λ and Δ of their length
+abbrev pub Measured : Folded → Type 0
+Measured f = (base_sizes f.n f.N f.rows ≡ accepted) × (length f.lambda ≡ f.N) × (length f.delta ≡ f.N)
+
+-- and with a mark row
+abbrev pub MeasuredRow : Folded → List ℕ → Type 0
+MeasuredRow f row = (base_sizes f.n f.N f.rows ≡ accepted) × (length f.lambda ≡ f.N) × (length f.delta ≡ f.N) × (length row ≡ f.N)
 
 -- 5, 6, 7 of the base and 8 of Λ and Δ
 abbrev pub base_and_marks : Folded → Verdict

@@ -11,7 +11,7 @@ ghost use Rattle.maps.specs.AddLevel.{refused_mark, add_lent, add_height, add_la
 ghost use Rattle.answers.specs.Pyramid.{lent, folded};
 ghost use Rattle.answers.specs.Numbers.{verdict_of};
 ghost use Rattle.climbing.specs.Climb.{Base};
-ghost use Rattle.checking.specs.Checked.{base_sizes, base_and_marks, early_with, early_of};
+ghost use Rattle.checking.specs.Checked.{lengths_with, Measured, MeasuredRow, base_and_marks, early_with, early_of};
 ghost use Rattle.checking.specs.Added.{add_sizes, row_marks, add_marks, ascends, ascend_leaves};
 ghost use Rattle.checking.specs.Answers.{height_of};
 
@@ -19,7 +19,7 @@ use answers::{Dim, Level, MOST_HEIGHT, Mark, Pyramid, ROOM, Refusal, STAY, Sizes
 
 // Have base rows, Λ and Δ the exact lengths, and what else is lent?
 fn fit(pyramid: &Pyramid<'_>, others: bool) -> bool
-    ensures { result ≡ (eqb (length pyramid.now.rows.now) (suc pyramid.now.sizes.n.0 * pyramid.now.sizes.darts) && (eqb (length pyramid.now.lambda.now) pyramid.now.sizes.darts && (eqb (length pyramid.now.delta.now) pyramid.now.sizes.darts && others))) }
+    ensures { result ≡ lengths_with (folded pyramid.now) others }
 {
     let rows = pyramid.rows.len();
     let lambda = pyramid.lambda.len();
@@ -29,7 +29,7 @@ fn fit(pyramid: &Pyramid<'_>, others: bool) -> bool
 
 // Numbers 5 to 8, before anything lent is written.
 fn base_and_marks(pyramid: &Pyramid<'_>) -> Result<(), Refusal>
-    requires { (base_sizes pyramid.now.sizes.n.0 pyramid.now.sizes.darts pyramid.now.rows.now ≡ accepted) × (length pyramid.now.lambda.now ≡ pyramid.now.sizes.darts) × (length pyramid.now.delta.now ≡ pyramid.now.sizes.darts) }
+    requires { Measured (folded pyramid.now) }
     ensures { verdict_of result ≡ base_and_marks (folded pyramid.now) }
 {
     bases::check_base(pyramid.sizes.n, pyramid.sizes.darts, pyramid.rows)?;
@@ -125,7 +125,7 @@ fn row_checked(sizes: Sizes, lambda: &[u8], row: &[u8]) -> Result<(), Refusal>
 
 // Numbers 5 to 8 of an add: the mark row comes last.
 fn add_marked(pyramid: &Pyramid<'_>, row: &[u8]) -> Result<(), Refusal>
-    requires { (base_sizes pyramid.now.sizes.n.0 pyramid.now.sizes.darts pyramid.now.rows.now ≡ accepted) × (length pyramid.now.lambda.now ≡ pyramid.now.sizes.darts) × (length pyramid.now.delta.now ≡ pyramid.now.sizes.darts) × (length row.now ≡ pyramid.now.sizes.darts) }
+    requires { MeasuredRow (folded pyramid.now) row.now }
     ensures { verdict_of result ≡ add_marks (folded pyramid.now) row.now }
 {
     base_and_marks(pyramid)?;

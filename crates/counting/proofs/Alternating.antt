@@ -8,9 +8,14 @@ use lib.Dec.{ltb}
 use lib.IntN.{ℤ, pos, negsuc, neg_ℤ, ◌+ℤ◌, ◌-ℤ◌, +ℤ_comm, +ℤ_assoc, +ℤ_idr, neg_ℤ-+ℤ}
 use lib.Signed.{mag}
 use mir.Syntax.{w32}
-use mir.Val.{SFits}
+use mir.Val.{SFits, to_z}
 use Rattle.maps.specs.Count.{sum}
 use Rattle.maps.specs.Census.{even, alternating}
+use mathlib.Core.List.{List}
+use lib.ListN.{length, get_or, set}
+use lib.Seq.{get_or-set_same, get_or-set_other}
+use borrow.Author.Count.{below_more}
+use mir.ValLaws.{to_z_pos}
 
 module _ (c : ℕ → ℕ) where
   -- the sum of the counts of 0, 2, ..
@@ -78,3 +83,14 @@ mag_sub a (suc b) n h k = mag_choice (ltb a (suc b)) (suc b - suc a) (a - suc b)
 
 pub difference_fits : (a b : ℕ) → a ≤ 196605 → b ≤ 196605 → SFits w32 (pos a -ℤ pos b)
 difference_fits a b h k = record { sfits = mag_sub a b (2 ^ 31) (omega arith) (omega arith) }
+
+-- what the machine subtracts are the numbers
+pub plain : (a b : ℕ) → a ≤ 12288 → b ≤ 12288 → to_z w32 a -ℤ to_z w32 b ≡ pos a -ℤ pos b
+plain a b h k = λ i. to_z_pos w32 a (omega arith) i -ℤ to_z_pos w32 b (omega arith) i
+
+-- a list of sums with one more
+pub sums_more : (f : ℕ → ℤ) (sums : List ℤ) (k : ℕ) (v : ℤ) → k < length sums → ((x : ℕ) → x < k → get_or sums x (pos 0) ≡ f x) → v ≡ f k → (x : ℕ) → x < k + 1 → get_or (set sums k v) x (pos 0) ≡ f x
+sums_more f sums k v lk below e =
+    below_more (λ x. get_or (set sums k v) x (pos 0) ≡ f x) k
+    (λ x l. get_or-set_other sums k x v (pos 0) (λ q. omega arith) ∙ below x l)
+    (get_or-set_same sums k v (pos 0) lk ∙ e)

@@ -3,18 +3,19 @@ use mathlib.Core.Path.{◌≡◌, refl, sym, ap, subst, ◌∙◌}
 use mathlib.Core.Logic.{inl, inr}
 use mathlib.Core.Bool.{Bool, true, false}
 use mathlib.Core.List.{List, []}
-use Prim.Native.Nat.{ℕ, zero, suc, ◌+◌, ◌-◌, ◌≤◌}
+use Prim.Native.Nat.{ℕ, zero, suc, ◌+◌, ◌-◌, ◌≤◌, ◌<◌}
 use native.Mathlib.Omega.{arith}
 use lib.ListN.{length, get_or, set, replicate, length-set, length-replicate, get_or-replicate}
 use lib.Seq.{get_or-set_same, get_or-set_other}
-use lib.Dec.{eqb}
+use lib.Dec.{eqb, ltb}
 use lib.IntN.{ℤ}
-use borrow.Author.Tests.{eqb-true, eqb-false}
+use borrow.Author.Tests.{eqb-true, eqb-false, ltb-true, ltb-false}
 use Rattle.maps.specs.Folded.{survives, marks, level, Folded, base, lambda_of, delta_of}
 use Rattle.maps.specs.Accepted.{Accepted}
 use Rattle.maps.specs.Verdict.{Verdict, accepted, refused}
 use Rattle.maps.specs.CheckPyramid.{check_lent, check_leaves, table_at}
 use Rattle.maps.specs.Census.{CellCount, alternating, count_at, CensusTaken, CensusLeaves}
+use Rattle.laws.proofs.Counting.{count_le}
 use Rattle.facts.proofs.AcceptedJobs.{accepted_table}
 use Rattle.facts.proofs.ExactJobs.{check_accepts}
 use Rattle.answers.specs.Numbers.{refusal_of}
@@ -22,7 +23,7 @@ use Rattle.answers.specs.declared.Refusal.{Refusal}
 use Rattle.answers.proofs.Refusals.{refusal_refuses}
 use Rattle.orbits.specs.Explicit.{ExplicitLevel}
 use Rattle.climbing.specs.Climb.{climb_to_leaves}
-use Rattle.counting.specs.Counts.{LevelCounted, zeroed, Counted, Summed}
+use Rattle.counting.specs.Counts.{LevelCounted, zeroed, Counted, Few, Summed}
 use Rattle.counting.proofs.Levels.{table_explicit, table_accepted, table_climbed, table_counted}
 use Rattle.counting.proofs.Alternating.{alternating_unused, alternating_zero}
 
@@ -81,6 +82,17 @@ module _ (P : Folded) where
     climbed_explicit = rw climbed_table (table_explicit P table p k lk)
 
   module _ (table : List ℕ) (p : Accepted P table) (counts : List (List ℕ)) (s : Counted P counts (h + 1)) where
+    -- no count is above the number of darts
+    pub counted_few : Few counts
+    counted_few = record { rows_long = s.rows_long; row_long = s.row_long; few = λ l i ll li. go l i ll li (ltb h l) refl (ltb n i) refl }
+      where
+        go : (l i : ℕ) → l < 33 → i < 5 → (b : Bool) → ltb h l ≡ b → (b' : Bool) → ltb n i ≡ b' → count_at counts l i ≤ 4096
+        go l i ll li true q b' r = omega (arith, s.unused l i ll li (inl (omega (arith, ltb-true h l q))))
+        go l i ll li false q true r = omega (arith, s.unused l i ll li (inr (ltb-true n i r)))
+        go l i ll li false q false r =
+            let c = s.cells l i (omega (arith, ltb-false h l q)) (ltb-false n i r) in
+            omega (arith, c.is, count_le c.counted N, p.darts.1)
+
     -- the unused places of a row are no part of its sum
     pub counted_used : (l : ℕ) → l ≤ h → alternating (count_at counts l) 5 ≡ alternating (count_at counts l) (suc n)
     counted_used l ll =

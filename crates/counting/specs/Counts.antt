@@ -45,6 +45,12 @@ module _ (f : Folded) where
     pub cells : (l i : ℕ) → l < k → i ≤ n → CellCount (level (base f) n N (marks h (lambda_of f) (delta_of f)) l) n N (survives (lambda_of f) l) i (count_at counts l i)
     pub unused : (l i : ℕ) → l < 33 → i < 5 → (k ≤ l) ⊎ (n < i) → count_at counts l i ≡ 0
 
+-- 33 rows of five counts, none above 4,096
+pub record Few (counts : List (List ℕ)) : Type 0 where
+  pub rows_long : length counts ≡ 33
+  pub row_long : (l : ℕ) → l < 33 → length (get_or counts l []) ≡ 5
+  pub few : (l i : ℕ) → l < 33 → i < 5 → count_at counts l i ≤ 4096
+
 -- the alternating sum of each row
 pub record Summed (counts : List (List ℕ)) (sums : List ℤ) : Type 0 where
   pub long : length sums ≡ 33

@@ -49,6 +49,17 @@ fn onward(pyramid: &Pyramid<'_>, asked: Question, met: u16) -> Result<Link, Refu
     }
 }
 
+// The walk of dart d by row i, as it is asked.
+fn walk_of(level: Level, i: u8, d: u16) -> Question
+    ensures { (result.level.0 ≡ level.0) × (result.involution.0 ≡ i) × (result.dart ≡ d) }
+{
+    Question {
+        level,
+        involution: Dim(i),
+        dart: d,
+    }
+}
+
 // The count of all walks of a level, and since which level all its links stand.
 #[derive(Clone, Copy)]
 pub struct Unfolding {
@@ -83,12 +94,7 @@ pub fn fill(pyramid: &Pyramid<'_>, level: Level, table: &mut [u16]) -> Result<Un
                     table[place] = e;
                     count += 1;
                 } else {
-                    let asked = Question {
-                        level,
-                        involution: Dim(i),
-                        dart: d,
-                    };
-                    match onward(pyramid, asked, e) {
+                    match onward(pyramid, walk_of(level, i, d), e) {
                         Ok(end) => {
                             table[place] = end.dart;
                             count += end.count;

@@ -13,7 +13,7 @@ impl Kernel<'_> {
         requires { d < length self.now.lambda.now }
         ensures { result ≡ eqb (each self.now.lambda.now d) self.now.level.0 }
     {
-        answers::lambda_at(self.lambda, d) == self.level
+        answers::in_kernel(answers::lambda_at(self.lambda, d), self.level)
     }
 
     // Is it in the kernel with this mark?

@@ -4,6 +4,7 @@ use contract.Lifetimes.{Lfts}
 use Rattle.maps.specs.Census.{census_lent}
 use Rattle.answers.specs.Pyramid.{given}
 use Rattle.interface.proofs.version.Reads as version-number
+use Rattle.interface.proofs.ZgRefusalFromRefusal.from.Reads as refusal-told
 use Rattle.interface.proofs.ZgRefusalFromResultUnitRefusal.from.Reads as refusal-as
 use Rattle.interface.proofs.ZgReadingFromResultNeighbourRefusal.from.Reads as reading-as
 use Rattle.interface.proofs.ZgLinkFromResultLinkRefusal.from.Reads as link-as
@@ -12,6 +13,7 @@ use Rattle.interface.proofs.ZgCountFromResultU32Refusal.from.Reads as count-as
 use Rattle.interface.proofs.height_as.Reads as height-as
 use Rattle.interface.proofs.ZgRecordFromResultSizesRefusal.from.Reads as record-as
 use Rattle.interface.proofs.ZgWrittenFromResultU32Refusal.from.Reads as written_as
+use Rattle.interface.proofs.ZgFactorFromFactor.from.Reads as factor-told
 use Rattle.interface.proofs.ZgFactorFromResultFactorRefusal.from.Reads as factor-as
 use Rattle.interface.proofs.base_as.Reads as base-as
 use Rattle.zompelgors.proofs.zg_version.Reads as version
@@ -33,7 +35,7 @@ use Rattle.zompelgors.proofs.zg_census.Reads as census
 use Rattle.counting.proofs.OneCensus.{put_leaves_one}
 use Rattle.zompelgors.proofs.zg_import.Reads as import-map
 use Rattle.zompelgors.proofs.zg_export.Reads as export-map
-use Rattle.interface.specs.Flat.{refusal_for}
+use Rattle.interface.specs.Flat.{said_by, refusal_for}
 use Rattle.zompelgors_regions.proofs.zg_regions.Reads as regions
 use Rattle.zompelgors.proofs.zg_join.Reads as join
 use Rattle.zompelgors.proofs.zg_rebase.Reads as rebase
@@ -48,6 +50,9 @@ version_one κs = one_outcome _ _ _ (λ a r. r) (λ r. r) (λ a r. refl) _ _ (λ
 
 pub refusal_as_one : (κs : Lfts 0) → OneOutcome (refusal-as.Learnt κs) (λ r. r) nothing
 refusal_as_one κs = one_outcome _ _ _ (λ a r. r) (λ r. r) (λ a r. refl) _ _ (λ a r s c. (c, refl))
+
+pub refusal_told_one : (κs : Lfts 0) → OneOutcome (refusal-told.Learnt κs) (λ r. r) nothing
+refusal_told_one κs = one_outcome _ _ _ (λ a. said_by) refusal_for (λ a r. refl) _ _ (λ a r s c. (c, refl))
 
 pub reading_as_one : (κs : Lfts 0) → OneOutcome (reading-as.Learnt κs) (λ r. r) nothing
 reading_as_one κs = one_outcome _ _ _ (λ a r. r) (λ r. r) (λ a r. refl) _ _ (λ a r s c. (c, refl))
@@ -72,6 +77,9 @@ written_as_one κs = one_outcome _ _ _ (λ a r. r) (λ r. r) (λ a r. refl) _ _ 
 
 pub factor_as_one : (κs : Lfts 0) → OneOutcome (factor-as.Learnt κs) (λ r. r) nothing
 factor_as_one κs = one_outcome _ _ _ (λ a r. r) (λ r. r) (λ a r. refl) _ _ (λ a r s c. (c, refl))
+
+pub factor_told_one : (κs : Lfts 0) → OneOutcome (factor-told.Learnt κs) (λ r. r) nothing
+factor_told_one κs = one_outcome _ _ _ (λ a r. r) (λ r. r) (λ a r. refl) _ _ (λ a r s c. (c, refl))
 
 pub base_as_one : (κs : Lfts 0) → OneOutcome (base-as.Learnt κs) (λ r. r) nothing
 base_as_one κs = one_outcome _ _ _ (λ a r. r) (λ r. r) (λ a r. refl) _ _ (λ a r s c. (c, refl))

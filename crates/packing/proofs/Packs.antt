@@ -107,6 +107,35 @@ packs_filled {p} {value} {N} {before} {mid} m filler s e f =
     rw (← e)
     (f ∙ ap (packed (each mid) m filler) s.long ∙ packed_same (each mid) (λ k. value (kth p N k)) m filler (length before) (λ k l. let z : 0 + k ≡ k = omega arith in rw z at (packs_kth s k (omega arith))))
 
+-- the places before `from` are as they were, from there to d they hold the filler
+pub record Filled (filler from d : ℕ) (before after : List ℕ) : Type 0 where
+  pub long : length after ≡ length before
+  pub front : (x : ℕ) → x < from → get_or after x 0 ≡ get_or before x 0
+  pub done : (x : ℕ) → from ≤ x → x < d → get_or after x 0 ≡ filler
+
+pub filled_none : (filler from : ℕ) (before : List ℕ) → Filled filler from from before before
+filled_none filler from before = record { long = refl; front = λ x l. refl; done = λ x l k. absurd (omega arith) }
+
+pub filled_more : {filler from d : ℕ} {before after : List ℕ} → Filled filler from d before after → from ≤ d → d < length before → Filled filler from (d + 1) before (set after d filler)
+filled_more {filler} {from} {d} {before} {after} s k l = record {
+  long = length-set after d filler ∙ s.long;
+  front = λ x f. get_or-set_other after d x filler 0 (λ z. omega arith) ∙ s.front x f;
+  done = λ x f g. at_place x f g (eqb x d) refl;
+}
+  where
+    at_place : (x : ℕ) → from ≤ x → x < d + 1 → (b : Bool) → eqb x d ≡ b → get_or (set after d filler) x 0 ≡ filler
+    at_place x f g true z = let e : x ≡ d = eqb-true x d z in rw e (get_or-set_same after d filler 0 (omega (arith, s.long)))
+    at_place x f g false z = let ne : x ≡ d → ⊥ = eqb-false x d z in get_or-set_other after d x filler 0 ne ∙ s.done x f (omega arith)
+
+-- all of it
+pub filled_all : {filler from d : ℕ} {before after : List ℕ} → Filled filler from d before after → length before ≤ d → after ≡ packed (each before) from filler (length before)
+unfolding packed
+filled_all {filler} {from} {d} {before} {after} s l = listed_of _ (length before) after s.long (λ x f. go x f (ltb x from) refl)
+  where
+    go : (x : ℕ) → x < length before → (b : Bool) → ltb x from ≡ b → get_or after x 0 ≡ cond (ltb x from) (each before x) filler
+    go x f true q = rw q (s.front x (ltb-true x from q))
+    go x f false q = rw q (s.done x (ltb-false x from q) (omega arith))
+
 -- a row that is filled from a place on
 module _ (filler from : ℕ) (before : List ℕ) (low : from ≤ length before) {part : List ℕ} (is : part ≡ replicate (length (take (length before - from) (drop from before))) filler) where
   front-long : length (take from before) ≡ from

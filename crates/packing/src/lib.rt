@@ -13,7 +13,7 @@ fn stands(lambda: &[u8], level: Level, d: usize) -> bool
     requires { d < length lambda.now }
     ensures { result ≡ survives (each lambda.now) level.0 d }
 {
-    level <= answers::lambda_at(lambda, d)
+    !answers::is_gone(answers::lambda_at(lambda, d), level)
 }
 
 // The rank of each dart: how many survivors are below it. The answer is how many there are. By index: one of two rows side by side is written.

@@ -6,8 +6,8 @@ use Prim.Native.Nat.{ℕ, zero, suc, ◌+◌, ◌-◌, ◌*◌, ◌≤◌, ◌<�
 use native.Mathlib.Nat.{suc-mul, mul-le-mul_right}
 use native.Mathlib.Numerals.{add-one}
 use native.Mathlib.Omega.{arith}
-use lib.ListN.{length, take, drop, length-append, length-drop}
-use lib.Seq.{take-take, take_all, drop-drop, take_at, drop_at, drop-length, drop-append-add, drop-append_seam, drop-append-le, take-append-le, length-take-le}
+use lib.ListN.{length, take, drop, length-append, length-drop, get_or, set, get_or-append}
+use lib.Seq.{take-take, take_all, drop-drop, take_at, drop_at, drop-length, drop-append-add, drop-append_seam, drop-append-le, take-append-le, length-take-le, get_or-take, paste, paste-suc}
 use lib.Dec.{eqb}
 use borrow.Author.Tests.{eqb-true, eqb-false}
 use borrow.Rule.Slice.PartMut.{put_mid, put_same}
@@ -32,6 +32,22 @@ use Rattle.climbing.proofs.Verdicts.{Says, Late, passed, says, kernel_late}
 use Rattle.climbing.proofs.Steps.{climb_tested, climb_strung, climb_refused, climb_next, kernel_is}
 use Rattle.stacking.proofs.Strings.{strings}
 use Rattle.stacking.specs.Stacked.{stacked_on, raised}
+
+-- the first half copied into the second, so far
+module _ (d : List ℕ) (s : ℕ) (long : length d ≡ s + s) where
+  pub doubled_read : (k : ℕ) → k < s → get_or (paste d s d k) k 0 ≡ get_or d k 0
+  doubled_read k l =
+      let a : length (take s d) ≡ s = length-take-le s d (omega arith) in
+      let b : length (take s d ++ take k d) ≡ s + length (take k d) = omega (arith, length-append (take s d) (take k d)) in
+      get_or-append (take s d ++ take k d) (drop (s + k) d) 0 k (omega arith) ∙ get_or-append (take s d) (take k d) 0 k (omega arith) ∙ get_or-take s d k 0 l
+
+  pub doubled_next : (k : ℕ) → k < s → set (paste d s d k) (s + k) (get_or (paste d s d k) k 0) ≡ paste d s d (k + 1)
+  doubled_next k l = rw (doubled_read k l, add-one) (paste-suc d s d k 0 (omega arith) (omega arith))
+
+  pub doubled_all : paste d s d s ≡ take s d ++ take s d
+  doubled_all =
+      let e : drop (s + s) d ≡ [] = rw (← long) (drop-length d) in
+      ap (λ (x : List ℕ). take s d ++ take s d ++ x) e ∙ append-nil (take s d ++ take s d)
 
 -- two blocks, the second a copy of the first, of which the second is lent and put back
 module _ (pair : List ℕ) (s e : ℕ) (is : e ≡ s) (long : length pair ≡ s + s) (copied : List ℕ) (twice : copied ≡ take e pair ++ take e pair) where

@@ -1,9 +1,12 @@
 -- Laws of what a field is written as: lengths, and the two bytes of a number. Assumes nothing.
 use mathlib.Core.Path.{◌≡◌, refl, sym, ap, ◌∙◌}
+use mathlib.Core.Bool.{Bool, true, false}
 use mathlib.Core.List.{List, [], ◌∷◌}
-use Prim.Native.Nat.{ℕ, zero, suc, ◌+◌, ◌*◌, ◌/◌, ◌%◌, ◌≤◌}
+use Prim.Native.Nat.{ℕ, zero, suc, ◌+◌, ◌*◌, ◌/◌, ◌%◌, ◌≤◌, ◌<◌}
 use native.Mathlib.Nat.{mul-le-mul_right, suc-mul, zero-mul}
 use native.Mathlib.Omega.{arith}
+use lib.Dec.{eqb}
+use borrow.Author.Tests.{eqb-true, eqb-false}
 use lib.ListN.{length, get_or, take, drop, length-append, length-take, length-drop}
 use Rattle.maps.specs.Write.{field_written, in_two_bytes, row_of, rows_written}
 
@@ -28,6 +31,23 @@ unfolding in_two_bytes
 high_two [] d = refl
 high_two (x ∷ xs) zero = refl
 high_two (x ∷ xs) (suc d) = let e : 2 * suc d + 1 ≡ suc (suc (2 * d + 1)) = omega arith in rw e (high_two xs d)
+
+-- where a list is a part of another, so are the two bytes of its numbers
+pub two_like : (xs ys : List ℕ) (from n : ℕ) → ((d : ℕ) → d < n → get_or xs d 0 ≡ get_or ys (from + d) 0) → (i : ℕ) → i < 2 * n → get_or (in_two_bytes xs) i 0 ≡ get_or (in_two_bytes ys) (2 * from + i) 0
+two_like xs ys from n same i l = go (eqb (i % 2) 0) refl
+  where
+    go : (b : Bool) → eqb (i % 2) 0 ≡ b → get_or (in_two_bytes xs) i 0 ≡ get_or (in_two_bytes ys) (2 * from + i) 0
+    go true e =
+        let even = eqb-true (i % 2) 0 e in
+        let z : i ≡ 2 * (i / 2) = omega arith in
+        let y : 2 * from + i ≡ 2 * (from + i / 2) = omega arith in
+        ap (λ (x : ℕ). get_or (in_two_bytes xs) x 0) z ∙ low_two xs (i / 2) ∙ ap (λ (x : ℕ). x % 256) (same (i / 2) (omega arith)) ∙ sym (low_two ys (from + i / 2)) ∙ ap (λ (x : ℕ). get_or (in_two_bytes ys) x 0) (sym y)
+    go false e =
+        let odd = eqb-false (i % 2) 0 e in
+        let r : i % 2 ≡ 1 = omega (arith, odd) in
+        let z : i ≡ 2 * (i / 2) + 1 = omega arith in
+        let y : 2 * from + i ≡ 2 * (from + i / 2) + 1 = omega arith in
+        ap (λ (x : ℕ). get_or (in_two_bytes xs) x 0) z ∙ high_two xs (i / 2) ∙ ap (λ (x : ℕ). x / 256) (same (i / 2) (omega arith)) ∙ sym (high_two ys (from + i / 2)) ∙ ap (λ (x : ℕ). get_or (in_two_bytes ys) x 0) (sym y)
 
 module _ (n N : ℕ) (rows : List ℕ) (rows-length : length rows ≡ suc n * N) where
   pub row_length : (i : ℕ) → i ≤ n → length (in_two_bytes (row_of N rows i)) ≡ 2 * N

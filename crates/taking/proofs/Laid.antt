@@ -144,3 +144,8 @@ laid_front {value} {m} {old} {new} list long same s l =
 
 pub laid_listed : {value : ℕ → ℕ} {m : ℕ} {old new : List ℕ} → Laid value 0 m old new → m ≤ length old → new ≡ listed value m ++ drop m old
 laid_listed {value} {m} s l = laid_front (listed value m) (length_listed value m) (λ x k. get_or_listed value m x 0 k) s l
+
+-- a whole list laid into a slice of its length
+pub laid_all : {old new : List ℕ} (list : List ℕ) → Laid (byte_from list 0) 0 (length list) old new → length old ≡ length list → new ≡ list
+laid_all {old} {new} list s e =
+    ext_get_or 0 new list (s.long ∙ e) (λ x f. let z : 0 + x ≡ x = omega arith in ap (λ (y : ℕ). get_or new y 0) (sym z) ∙ s.written x (omega (arith, s.long)) ∙ ap (byte list) z)

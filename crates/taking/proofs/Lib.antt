@@ -1,5 +1,6 @@
 mod Tags
 pub mod Laid
+pub mod Chunks
 pub mod Reach
 mod Whole
 pub mod Fields

@@ -13,6 +13,7 @@ ghost use Rattle.taking.specs.Answers.{allowed_of, taken_of, taken};
 ghost use Rattle.taking.specs.Front.{front, front_of, behind, FrontOf, InFront};
 
 use answers::{Pyramid, Refusal, Sizes};
+pub use copying::copy_bytes;
 use unpacking::unpack;
 
 // The rows that a reader allows: of two bytes an entry alone, or of either kind, as old records may have them.

@@ -10,7 +10,7 @@ ghost use Rattle.taking.specs.Parts.{size_of, marks_at, row_field, room_of, rest
 ghost use Rattle.taking.specs.Front.{entries_of, lambda_from, delta_from, Whole};
 
 use super::Allowed;
-use super::copying::{copy_narrow, copy_wide};
+use super::copying::{copy_bytes, copy_narrow, copy_wide};
 use answers::{Dim, Level, Refusal, Sizes};
 
 // What a tag says; a row's tag says which row.
@@ -211,11 +211,11 @@ fn copy_all(
     let lambda_from = marks_at(sizes.n, darts, one) as usize + 3;
     let delta_from = lambda_from + count + 3;
     copy_rows(bytes, sizes.n, darts, one, rows);
-    answers::copy(
+    copy_bytes(
         &bytes[lambda_from..lambda_from + count],
         &mut lambda[..count],
     );
-    answers::copy(&bytes[delta_from..delta_from + count], &mut delta[..count]);
+    copy_bytes(&bytes[delta_from..delta_from + count], &mut delta[..count]);
 }
 
 // Unpack a record into lent tables: nothing lent is written before the whole record is known to be good. Of the table that its check is lent, the length is tested.

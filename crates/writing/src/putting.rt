@@ -1,12 +1,14 @@
 // A record's fields, put into the front of a lent buffer: a head of tag and length, then the body. Assumes nothing.
+// Most of a row goes in parts of 64 entries, each read whole before any of it is written, so that a part is moved in registers (crates/taking/src/copying.rt
+// says why).
 ghost use Rattle.std.specs.Prelude.{◌≡◌, [], ◌∷◌, suc, ◌+◌, ◌*◌, ◌≤◌, length};
 ghost use Rattle.maps.specs.Write.{field_written, in_two_bytes, rows_written};
 ghost use Rattle.writing.specs.Put.{head_of, Put};
 
 use answers::{Dim, Sizes};
 
-// The body of a row: two bytes an entry, low byte first.
-fn put_entries(row: &[u16], to: &mut [u8])
+// Entries, two bytes each, low byte first, one by one.
+fn put_few(row: &[u16], to: &mut [u8])
     requires { 2 * length row.now ≤ length to.old }
     ensures { Put (in_two_bytes row.now) 0 to.old to.new }
 {
@@ -15,6 +17,29 @@ fn put_entries(row: &[u16], to: &mut [u8])
         to[2 * d] = pair[0];
         to[2 * d + 1] = pair[1];
     }
+}
+
+// The bytes of a part of a row: 64 entries.
+fn bytes_of(part: &[u16; 64]) -> [u8; 128]
+    ensures { result ≡ in_two_bytes part.now }
+{
+    let mut bytes = [0u8; 128];
+    put_few(part, &mut bytes);
+    bytes
+}
+
+// The body of a row: the parts, then the last few.
+fn put_entries(row: &[u16], to: &mut [u8])
+    requires { 2 * length row.now ≤ length to.old }
+    ensures { Put (in_two_bytes row.now) 0 to.old to.new }
+{
+    let (parts, rest) = row.as_chunks::<64>();
+    for (k, part) in parts.iter().enumerate() {
+        let at = 128 * k;
+        answers::copy(&bytes_of(part), &mut to[at..at + 128]);
+    }
+    let done = 128 * parts.len();
+    put_few(rest, &mut to[done..]);
 }
 
 // The head of a field: its tag, and its length in two bytes, low byte first.
@@ -63,5 +88,5 @@ pub(crate) fn put_marks(tag: u8, marks: &[u8], to: &mut [u8])
     ensures { Put (field_written tag marks.now) 0 to.old to.new }
 {
     put_head(tag, marks.len() as u16, to);
-    answers::copy(marks, &mut to[3..3 + marks.len()]);
+    taking::copy_bytes(marks, &mut to[3..3 + marks.len()]);
 }

@@ -1,6 +1,7 @@
 -- `converting::convert` meets its contract: what is taken is handed on to writing. Assumes nothing.
 use mathlib.Core.Path.{ap, ◌∙◌}
 use mathlib.Core.List.{[]}
+use native.Mathlib.Omega.{arith}
 use Rattle.maps.specs.Folded.{Folded}
 use Rattle.writing.specs.Answers.{putting, put_leaves}
 use Rattle.answers.proofs.Refusals.{passed_on}
@@ -13,9 +14,12 @@ returns-in_err-sizes c =
     let x = refused _ _ _ _ _ _ c.in_err-sizes.field-0.0 f.answer in
     rw (passed_on c.from_residual.result c.from_residual.ensures.1) (record { answer = x.0; rows_left = f.rows_left; lambda_left = f.lambda_left; delta_left = f.delta_left; table_left = f.table_left; new_left = x.1 })
 
--- whatever the buffer holds
+-- whatever the buffer holds, and whichever row of marks is asked first: the lengths alone
 pub at_front-requires : goal.at_front-requires
-at_front-requires c = let f = c.in_ok-sizes.ensures in fits _ _ _ _ _ [] f.answer f.rows_left f.lambda_left f.delta_left
+at_front-requires c =
+    let f = c.in_ok-sizes.ensures in
+    let long = fits _ _ _ _ _ [] f.answer f.rows_left f.lambda_left f.delta_left in
+    (long.0, long.1, long.2, omega (arith, long.3, long.4), omega (arith, long.3, long.4))
 
 pub write_accepted-requires : goal.write_accepted-requires
 write_accepted-requires c = let f = c.in_ok-sizes.ensures in rw c.at_front.ensures.parts (checked _ _ _ _ _ [] f.answer f.rows_left f.lambda_left f.delta_left)

@@ -64,7 +64,8 @@ loop-d-preserved c =
             let here = on_level l w.lambda_at-else-is_gone.ensures w.is_gone-else-is_gone.ensures w.if-not-is_gone.true in
             filled_end v.2 (place at).0 c.loop-d-test.true (on w.if-is_gone.false) (arrives (first at) (reads at) w.if-darts-e.false (p.allowed e w.if-darts-e.false) here) (omega arith) (arrived (first at) (reads at) here) v.3 w.table-is w.count-is (ap number w.since-is ∙ omega arith)
         | else-is_gone+else-darts-e+else-not-is_gone+in-Ok w ↦
-            let f = w.in-Ok.ensures in
+            let asked = w.walk_of.ensures in
+            let f = rw (asked.0, asked.1, asked.2) at w.in-Ok.ensures in
             let later : w.max-since.result.0 ≡ max c.loop-d.since.0 w.in-Ok.end.since.0 = grind (arith, common_steps) in
             filled_end v.2 (place at).0 c.loop-d-test.true (on w.if-is_gone.false) f.is (omega (arith, f.few, p.lent.darts)) f.stands v.3 w.table-is w.count-is (ap number w.since-is ∙ later)
       ]),
@@ -78,7 +79,8 @@ rows-preserved c = let v = c.loop-d.invariant in (omega arith, filled_row v.2 (o
 pub onward-requires : goal.onward-requires
 onward-requires c =
     let at = (goal.at.onward-requires c).After-lambda_at in
-    (c.requires.0, record { row = (place at).0; start = c.loop-d-test.true; read = reads at; dart = c.if-darts-e.false; gone = off_level c.args.level.0 c.lambda_at-else-is_gone.ensures c.is_gone-else-is_gone.ensures c.if-not-is_gone.false })
+    let asked = c.walk_of.ensures in
+    rw (asked.0, asked.1, asked.2) (c.requires.0, record { row = (place at).0; start = c.loop-d-test.true; read = reads at; dart = c.if-darts-e.false; gone = off_level c.args.level.0 c.lambda_at-else-is_gone.ensures c.is_gone-else-is_gone.ensures c.if-not-is_gone.false })
 
 -- what stopped the walks, as a verdict
 abbrev said : Option Refusal → Verdict
@@ -111,6 +113,7 @@ returns-in-Some c =
       | then-rows-test+then-loop-d-test+else-is_gone+else-darts-e+else-not-is_gone+in-Err w ↦
           let v = w.loop-d.invariant in
           let row : c.rows.i ≤ p.sizes.n.0 = omega (arith, v.1) in
-          let f = w.in-Err.ensures in
+          let asked = w.walk_of.ensures in
+          let f = rw (asked.0, asked.1, asked.2) at w.in-Err.ensures in
           rw w.table-is (filled_missed v.2 row w.loop-d-test.true (on_level l w.lambda_at.ensures w.is_gone.ensures w.if-is_gone.false) f.is (ap said (sym c.in-Some.is ∙ w.refused-is) ∙ f.said) f.stops)
     ]

@@ -6,6 +6,5 @@ use Rattle.checking.proofs.pyramid.early_with.Goals as goal
 
 pub base_and_marks-requires : goal.base_and_marks-requires
 base_and_marks-requires c =
-    let a = c.args in
-    let f = with_facts (folded a.pyramid.now) a.others (sym (rw c.fit.ensures at c.in_ok-lent.ensures)) in
+    let f = with_facts (folded c.args.pyramid.now) _ (sym (rw c.fit.ensures at c.in_ok-lent.ensures)) in
     (f.base, f.lambda_long, f.delta_long)

@@ -1,6 +1,7 @@
--- `taking::copy_wide` meets its contract. The invariant: the entries passed are laid. Assumes nothing.
+-- `taking::copy_wide` meets its contract. The invariant: the parts passed are laid. Assumes nothing.
+use Prim.Native.Nat.{◌*◌}
 use Rattle.taking.specs.Parts.{two_from, Laid}
 use Rattle.taking.proofs.copying.copy_wide.Given as goal
 
-abbrev pub invariant-loop-d : goal.invariant-loop-d
-invariant-loop-d l = Laid (two_from l.body 0) 0 l.d l.initial.row l.row
+abbrev pub invariant-loop-k : goal.invariant-loop-k
+invariant-loop-k l = Laid (two_from l.body 0) 0 (64 * l.k) l.initial.row l.row

@@ -8,4 +8,4 @@ pub returns : goal.returns
 returns c =
     let head = c.put_head.ensures in
     let body = put_part c.args.marks.now 3 _ c.put_head.new.to (omega arith) (omega (arith, head.laid.long)) in
-    put_field head (rw c.copy.ensures body) refl refl
+    put_field head (rw c.copy_bytes.ensures body) refl refl
