@@ -262,8 +262,11 @@ def lost_theorems(lines):
 
 
 def sources_of(tree):
-    """The text of each crate's sources, as git has crates/ under a tree."""
-    packed = subprocess.run(["git", "-C", str(ROOT), "archive", tree], check=True, capture_output=True).stdout
+    """The text of each crate's sources, as git has crates/ under a tree; nothing where it hasn't the tree."""
+    run = subprocess.run(["git", "-C", str(ROOT), "archive", tree], capture_output=True)
+    if run.returncode:
+        return {}
+    packed = run.stdout
     texts = {}
     with tarfile.open(fileobj=io.BytesIO(packed)) as files:
         for member in files:
